@@ -460,6 +460,21 @@ impl Machine {
         Some(Past::new(found, &self.records.octets))
     }
 
+    /// The adapter, to look at.
+    pub fn adapter(&self) -> &Adapter
+        ensures { shows result.now ≡ self.now.present }
+    {
+        &self.adapter
+    }
+
+    /// The journal's budget in octets of cost.
+    pub fn budget(&self) -> u64
+        ensures budget { result ≡ self.now.budget }
+        ensures allowed { IsBudget result }
+    {
+        self.budget
+    }
+
     /// Which profile it is of.
     #[inline(always)]
     pub fn profile(&self) -> Profile

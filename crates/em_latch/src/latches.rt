@@ -2,7 +2,7 @@
 ghost use Rattle.std.specs.Prelude.{◌≡◌, ◌≢◌, ◌+◌, ◌≤◌, ◌<◌, ◌↔◌, IsTrue, Some, slice_index};
 ghost use Rattle.std.specs.FinMap as map;
 ghost use Rattle.em_regs.specs.Table.{offset_of};
-ghost use Rattle.em_regs.specs.Storage.{Registers};
+ghost use Rattle.em_regs.specs.Storage.{Registers, words_at};
 ghost use Rattle.em_regs.specs.RegFile as registers;
 ghost use Rattle.em_latch.specs.Storage.{offsets};
 ghost use Rattle.em_latch.specs.Latches.{fresh, is_latched, IsLatched, IsWord, gives, after_read, after_write};
@@ -54,6 +54,21 @@ impl Latches {
         ensures { result ≡ fresh }
     {
         Latches { words: [0; WORDS] }
+    }
+
+    /// Causes, mask and counters with these words, each at its place.
+    pub fn of_words(words: [u32; WORDS]) -> Latches
+        ensures { result ≡ words_at offsets words }
+    {
+        Latches { words }
+    }
+
+    /// All words: the causes, their mask, and each counter's at the place that its row names.
+    pub fn words(&self) -> &[u32; WORDS]
+        ensures words { result.now ≡ registers.words_of offsets self.now }
+        ensures latches { words_at offsets result.now ≡ self.now }
+    {
+        &self.words
     }
 
     /// The same causes, mask and counters once more.
