@@ -1,0 +1,4 @@
+pub mod FormLaws
+pub mod FrontLaws
+pub mod PageLaws
+pub mod ReadLaws

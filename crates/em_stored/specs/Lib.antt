@@ -1,0 +1,4 @@
+pub mod Form
+pub mod Stored
+pub mod Tests
+pub mod Reading

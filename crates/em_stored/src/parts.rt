@@ -1,0 +1,146 @@
+//! The lists of a machine, read into its parts.
+ghost use Rattle.std.specs.Prelude.{◌≡◌, ◌++◌, ◌+◌, ◌/◌, ◌≤◌, ℕ, List, [], drop, length, take};
+ghost use Rattle.em_mem.specs.Memory as memory;
+ghost use Rattle.em_mem.specs.Memory.{IsHeld, IsMemoryRange, page_size, part, zeros};
+ghost use Rattle.em_rx.specs.Fifo as rx;
+ghost use Rattle.em_rx.specs.Fifo.{HasRoom, IsFifo, after_arrival, shows};
+ghost use Rattle.em_rx.specs.Frame.{Frame};
+ghost use Rattle.em_stored.specs.Form.{counted, frame_form, listed, page_form, pages_form, tag_number};
+ghost use Rattle.em_stored.specs.Reading.{Gives};
+ghost use Rattle.em_stored.specs.Stored.{AreTagged, IsTag};
+
+use crate::form::{HALF_RANGE, NO_TAG};
+use crate::reader::Reader;
+use crate::refusal::StoredRefusal;
+use em_mem::{GuestMemory, PAGE_OCTETS};
+use em_rx::Fifo;
+use em_tx::Wire;
+use std::alloc::Global;
+
+/// The least octets of a frame of the FIFO.
+const LEAST_FRAME: usize = 56;
+
+/// Reads the FIFO, of whose first frame so many octets are in guest memory already.
+pub(crate) fn read_fifo(
+    alloc: Global,
+    reader: &mut Reader<'_>,
+    taken: u32,
+) -> Result<Fifo, StoredRefusal>
+    ensures { (fifo : rx.Fifo) (rest : List ℕ) → IsFifo fifo → AreTagged fifo.frames → taken ≡ fifo.taken
+        → reader.old.left.now ≡ listed frame_form fifo.frames ++ rest
+        → Gives result (λ made. (shows made ≡ fifo) × (reader.new.left.now ≡ rest)) }
+{
+    let mut fifo = read_frames(alloc, reader)?;
+    if taken == 0 {
+        return Ok(fifo);
+    }
+    if fifo.frames() == 0 || taken > fifo.rest() {
+        return Err(StoredRefusal::Value);
+    }
+    fifo.pass(taken);
+    Ok(fifo)
+}
+
+/// Reads the frames of the FIFO.
+fn read_frames(alloc: Global, reader: &mut Reader<'_>) -> Result<Fifo, StoredRefusal>
+    ensures { (fifo : rx.Fifo) (rest : List ℕ) → IsFifo fifo → AreTagged fifo.frames
+        → reader.old.left.now ≡ listed frame_form fifo.frames ++ rest
+        → Gives result (λ made.
+            (shows made ≡ record { frames = fifo.frames; taken = 0 }) × (reader.new.left.now ≡ rest)) }
+{
+    let mut fifo = new_fifo(alloc)?;
+    let count = reader.count()?;
+    for _k in 0..count {
+        let tag = reader.word()?;
+        let octets = reader.counted()?;
+        put_frame(&mut fifo, tag, octets)?;
+    }
+    Ok(fifo)
+}
+
+/// A FIFO with no frame.
+fn new_fifo(alloc: Global) -> Result<Fifo, StoredRefusal>
+    ensures { Gives result (λ fifo. shows fifo ≡ record { frames = []; taken = 0 }) }
+{
+    match Fifo::new(alloc) {
+        Ok(fifo) => Ok(fifo),
+        Err(_) => Err(StoredRefusal::Memory),
+    }
+}
+
+/// Puts a frame into the FIFO, where it can be there.
+fn put_frame(fifo: &mut Fifo, tag: u32, octets: &[u8]) -> Result<(), StoredRefusal>
+    ensures { (frame : Frame) → frame.octets ≡ octets.now → tag_number frame.tag ≡ tag → IsTag frame.tag
+        → 56 ≤ length octets.now → HasRoom (shows fifo.old) (length octets.now)
+        → Gives result (λ _. shows fifo.new ≡ after_arrival (shows fifo.old) frame) }
+{
+    if octets.len() < LEAST_FRAME || !fifo.has_room(octets.len()) {
+        return Err(StoredRefusal::Value);
+    }
+    let tag = if tag == NO_TAG {
+        None
+    } else {
+        Some((tag % HALF_RANGE) as u16)
+    };
+    match fifo.put(octets, tag) {
+        Ok(()) => Ok(()),
+        Err(_) => Err(StoredRefusal::Memory),
+    }
+}
+
+/// Reads the frames that were sent.
+pub(crate) fn read_wire(alloc: Global, reader: &mut Reader<'_>) -> Result<Wire, StoredRefusal>
+    ensures { (frames : List (List ℕ)) (rest : List ℕ) → reader.old.left.now ≡ listed counted frames ++ rest
+        → Gives result (λ wire. (wire ≡ frames) × (reader.new.left.now ≡ rest)) }
+{
+    let mut wire = Wire::new(alloc);
+    let count = reader.count()?;
+    for _k in 0..count {
+        let frame = reader.counted()?;
+        wire.add(frame)?;
+    }
+    Ok(wire)
+}
+
+/// Reads so many pages of guest memory from a base on.
+pub(crate) fn read_memory(
+    alloc: Global,
+    reader: &mut Reader<'_>,
+    base: u64,
+    size: u64,
+) -> Result<GuestMemory, StoredRefusal>
+    ensures { (octets rest : List ℕ) → IsMemoryRange base size → length octets ≡ base + size
+        → take base octets ≡ zeros base
+        → reader.old.left.now ≡ pages_form (size / page_size) (drop base octets) ++ rest
+        → Gives result (λ made. (made.base ≡ base) × (made.octets ≡ octets)) }
+{
+    let mut memory = GuestMemory::at(alloc, base, size)?;
+    let page = PAGE_OCTETS as u64;
+    for k in 0..size / page {
+        read_page(reader, &mut memory, base + page * k)?;
+    }
+    Ok(memory)
+}
+
+/// Reads a page into guest memory, where all octets of it are zero.
+fn read_page(
+    reader: &mut Reader<'_>,
+    memory: &mut GuestMemory,
+    at: u64,
+) -> Result<(), StoredRefusal>
+    requires { IsHeld memory.old at 4096 }
+    ensures held { (memory.new.base ≡ memory.old.base) × (length memory.new.octets ≡ length memory.old.octets) }
+    ensures page { (page rest : List ℕ) → length page ≡ 4096 → part memory.old.octets at 4096 ≡ zeros 4096
+        → reader.old.left.now ≡ page_form page ++ rest
+        → Gives result (λ _. (memory.new.octets ≡ memory.put memory.old.octets at page)
+            × (reader.new.left.now ≡ rest)) }
+{
+    let mark = reader.octets(1)?;
+    if mark[0] == 0 {
+        return Ok(());
+    }
+    let page = reader.octets(PAGE_OCTETS as u64)?;
+    memory.touch(at, PAGE_OCTETS as u64)?;
+    memory.write(at, page);
+    Ok(())
+}
