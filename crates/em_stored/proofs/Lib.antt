@@ -1,4 +1,1 @@
 pub mod FormLaws
-pub mod FrontLaws
-pub mod PageLaws
-pub mod ReadLaws

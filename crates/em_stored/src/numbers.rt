@@ -1,9 +1,4 @@
 //! The numbers of a machine, read.
-ghost use Rattle.std.specs.Prelude.{◌≡◌, ◌++◌, ◌^◌, ℕ, List};
-ghost use Rattle.em_step.specs.State.{State};
-ghost use Rattle.em_stored.specs.Form.{words};
-ghost use Rattle.em_stored.specs.Reading.{Gives, HasNumbers};
-ghost use Rattle.em_stored.specs.Stored.{AreBelow, IsMachine, latch_words, register_words, single_numbers};
 
 use crate::form::{HALF_RANGE, SINGLE_NUMBERS};
 use crate::reader::Reader;
@@ -20,12 +15,7 @@ pub(crate) struct Numbers {
 }
 
 /// Reads them.
-pub(crate) fn read_numbers(reader: &mut Reader<'_>) -> Result<Numbers, StoredRefusal>
-    ensures { (budget : ℕ) (s : State) (rest : List ℕ) → IsMachine budget s
-        → reader.old.left.now ≡ words (single_numbers budget s) ++ (words s.phy.words ++ (words s.eeprom
-        ++ (words (register_words s) ++ (words (latch_words s) ++ rest))))
-        → Gives result (λ numbers. HasNumbers budget s numbers × (reader.new.left.now ≡ rest)) }
-{
+pub(crate) fn read_numbers(reader: &mut Reader<'_>) -> Result<Numbers, StoredRefusal> {
     let singles = reader.words()?;
     let phy = reader.words()?;
     let eeprom = reader.words()?;
@@ -41,9 +31,7 @@ pub(crate) fn read_numbers(reader: &mut Reader<'_>) -> Result<Numbers, StoredRef
 }
 
 /// The low halves of numbers.
-fn halves<const N: usize>(words: &[u32; N]) -> [u16; N]
-    ensures { AreBelow (2 ^ 16) words.now → result ≡ words.now }
-{
+fn halves<const N: usize>(words: &[u32; N]) -> [u16; N] {
     let mut halves = [0; N];
     for k in 0..N {
         halves[k] = (words[k] % HALF_RANGE) as u16;

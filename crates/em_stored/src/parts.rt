@@ -1,13 +1,6 @@
 //! The lists of a machine, read into its parts.
-ghost use Rattle.std.specs.Prelude.{◌≡◌, ◌++◌, ◌+◌, ◌/◌, ◌≤◌, ℕ, List, [], drop, length, take};
-ghost use Rattle.em_mem.specs.Memory as memory;
-ghost use Rattle.em_mem.specs.Memory.{IsHeld, IsMemoryRange, page_size, part, zeros};
-ghost use Rattle.em_rx.specs.Fifo as rx;
-ghost use Rattle.em_rx.specs.Fifo.{HasRoom, IsFifo, after_arrival, shows};
-ghost use Rattle.em_rx.specs.Frame.{Frame};
-ghost use Rattle.em_stored.specs.Form.{counted, frame_form, listed, page_form, pages_form, tag_number};
-ghost use Rattle.em_stored.specs.Reading.{Gives};
-ghost use Rattle.em_stored.specs.Stored.{AreTagged, IsTag};
+ghost use Rattle.std.specs.Prelude.{◌≡◌, length};
+ghost use Rattle.em_mem.specs.Memory.{IsHeld};
 
 use crate::form::{HALF_RANGE, NO_TAG};
 use crate::reader::Reader;
@@ -25,11 +18,7 @@ pub(crate) fn read_fifo(
     alloc: Global,
     reader: &mut Reader<'_>,
     taken: u32,
-) -> Result<Fifo, StoredRefusal>
-    ensures { (fifo : rx.Fifo) (rest : List ℕ) → IsFifo fifo → AreTagged fifo.frames → taken ≡ fifo.taken
-        → reader.old.left.now ≡ listed frame_form fifo.frames ++ rest
-        → Gives result (λ made. (shows made ≡ fifo) × (reader.new.left.now ≡ rest)) }
-{
+) -> Result<Fifo, StoredRefusal> {
     let mut fifo = read_frames(alloc, reader)?;
     if taken == 0 {
         return Ok(fifo);
@@ -42,15 +31,10 @@ pub(crate) fn read_fifo(
 }
 
 /// Reads the frames of the FIFO.
-fn read_frames(alloc: Global, reader: &mut Reader<'_>) -> Result<Fifo, StoredRefusal>
-    ensures { (fifo : rx.Fifo) (rest : List ℕ) → IsFifo fifo → AreTagged fifo.frames
-        → reader.old.left.now ≡ listed frame_form fifo.frames ++ rest
-        → Gives result (λ made.
-            (shows made ≡ record { frames = fifo.frames; taken = 0 }) × (reader.new.left.now ≡ rest)) }
-{
+fn read_frames(alloc: Global, reader: &mut Reader<'_>) -> Result<Fifo, StoredRefusal> {
     let mut fifo = new_fifo(alloc)?;
     let count = reader.count()?;
-    for _k in 0..count {
+    for _ in 0..count {
         let tag = reader.word()?;
         let octets = reader.counted()?;
         put_frame(&mut fifo, tag, octets)?;
@@ -59,9 +43,7 @@ fn read_frames(alloc: Global, reader: &mut Reader<'_>) -> Result<Fifo, StoredRef
 }
 
 /// A FIFO with no frame.
-fn new_fifo(alloc: Global) -> Result<Fifo, StoredRefusal>
-    ensures { Gives result (λ fifo. shows fifo ≡ record { frames = []; taken = 0 }) }
-{
+fn new_fifo(alloc: Global) -> Result<Fifo, StoredRefusal> {
     match Fifo::new(alloc) {
         Ok(fifo) => Ok(fifo),
         Err(_) => Err(StoredRefusal::Memory),
@@ -69,11 +51,7 @@ fn new_fifo(alloc: Global) -> Result<Fifo, StoredRefusal>
 }
 
 /// Puts a frame into the FIFO, where it can be there.
-fn put_frame(fifo: &mut Fifo, tag: u32, octets: &[u8]) -> Result<(), StoredRefusal>
-    ensures { (frame : Frame) → frame.octets ≡ octets.now → tag_number frame.tag ≡ tag → IsTag frame.tag
-        → 56 ≤ length octets.now → HasRoom (shows fifo.old) (length octets.now)
-        → Gives result (λ _. shows fifo.new ≡ after_arrival (shows fifo.old) frame) }
-{
+fn put_frame(fifo: &mut Fifo, tag: u32, octets: &[u8]) -> Result<(), StoredRefusal> {
     if octets.len() < LEAST_FRAME || !fifo.has_room(octets.len()) {
         return Err(StoredRefusal::Value);
     }
@@ -89,13 +67,10 @@ fn put_frame(fifo: &mut Fifo, tag: u32, octets: &[u8]) -> Result<(), StoredRefus
 }
 
 /// Reads the frames that were sent.
-pub(crate) fn read_wire(alloc: Global, reader: &mut Reader<'_>) -> Result<Wire, StoredRefusal>
-    ensures { (frames : List (List ℕ)) (rest : List ℕ) → reader.old.left.now ≡ listed counted frames ++ rest
-        → Gives result (λ wire. (wire ≡ frames) × (reader.new.left.now ≡ rest)) }
-{
+pub(crate) fn read_wire(alloc: Global, reader: &mut Reader<'_>) -> Result<Wire, StoredRefusal> {
     let mut wire = Wire::new(alloc);
     let count = reader.count()?;
-    for _k in 0..count {
+    for _ in 0..count {
         let frame = reader.counted()?;
         wire.add(frame)?;
     }
@@ -108,12 +83,7 @@ pub(crate) fn read_memory(
     reader: &mut Reader<'_>,
     base: u64,
     size: u64,
-) -> Result<GuestMemory, StoredRefusal>
-    ensures { (octets rest : List ℕ) → IsMemoryRange base size → length octets ≡ base + size
-        → take base octets ≡ zeros base
-        → reader.old.left.now ≡ pages_form (size / page_size) (drop base octets) ++ rest
-        → Gives result (λ made. (made.base ≡ base) × (made.octets ≡ octets)) }
-{
+) -> Result<GuestMemory, StoredRefusal> {
     let mut memory = GuestMemory::at(alloc, base, size)?;
     let page = PAGE_OCTETS as u64;
     for k in 0..size / page {
@@ -128,12 +98,9 @@ fn read_page(
     memory: &mut GuestMemory,
     at: u64,
 ) -> Result<(), StoredRefusal>
-    requires { IsHeld memory.old at 4096 }
-    ensures held { (memory.new.base ≡ memory.old.base) × (length memory.new.octets ≡ length memory.old.octets) }
-    ensures page { (page rest : List ℕ) → length page ≡ 4096 → part memory.old.octets at 4096 ≡ zeros 4096
-        → reader.old.left.now ≡ page_form page ++ rest
-        → Gives result (λ _. (memory.new.octets ≡ memory.put memory.old.octets at page)
-            × (reader.new.left.now ≡ rest)) }
+    requires { IsHeld memory.old at PAGE_OCTETS }
+    ensures base { memory.new.base ≡ memory.old.base }
+    ensures end { length memory.new.octets ≡ length memory.old.octets }
 {
     let mark = reader.octets(1)?;
     if mark[0] == 0 {

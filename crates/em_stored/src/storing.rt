@@ -1,11 +1,11 @@
 //! A machine written down.
 ghost use Rattle.std.specs.Prelude.{◌≡◌, ◌++◌, ◌-◌, ◌/◌, IfOk, OnOk, drop, length};
 ghost use Rattle.em_mem.specs.Memory.{page_size};
-ghost use Rattle.em_rx.specs.Fifo.{IsFifo, shows};
+ghost use Rattle.em_rx.specs.Fifo.{shows};
 ghost use Rattle.em_rx.specs.StoredFrame.{LiesSo};
 ghost use Rattle.em_rx.specs.Frame.{Frame};
-ghost use Rattle.em_stored.specs.Form.{are_zero, counted, frame_form, listed, page_form, pages_form, tag_number, words};
-ghost use Rattle.em_stored.specs.Stored.{AreTagged, IsMachine, IsTag, body, link_number, lists, measured};
+ghost use Rattle.em_stored.specs.Form.{are_zero, counted, frame_form, listed, page_form, pages_form, tag_number};
+ghost use Rattle.em_stored.specs.Stored.{body, measured};
 ghost use Rattle.em_stored.specs.Stored.{profile_number, single_numbers, stored, summed};
 
 use crate::form::{BACK, MAGIC, NO_TAG, SINGLE_NUMBERS, VERSION};
@@ -21,9 +21,8 @@ use std::alloc::{AllocError, Global};
 /// handed over.
 #[tactic(auto, unfolding(crate::specs::Stored::stored))]
 pub fn store(alloc: Global, machine: &Machine, handed: u64) -> Result<Vec<u8>, AllocError>
-    ensures octets { IfOk result (λ octets.
+    ensures { IfOk result (λ octets.
         octets.items ≡ stored handed machine.now.budget machine.now.present) }
-    ensures machine { OnOk result (IsMachine machine.now.budget machine.now.present) }
 {
     let mut out = Vec::new(alloc);
     put_number(&mut out, MAGIC)?;
@@ -45,9 +44,8 @@ fn close(out: &mut Vec<u8>) -> Result<(), AllocError>
 
 /// What a machine consists of.
 fn put_body(out: &mut Vec<u8>, machine: &Machine, handed: u64) -> Result<(), AllocError>
-    ensures octets { OnOk result
+    ensures { OnOk result
         (out.new.items ≡ out.old.items ++ body handed machine.now.budget machine.now.present) }
-    ensures machine { OnOk result (IsMachine machine.now.budget machine.now.present) }
 {
     let adapter = machine.adapter();
     put_number(out, handed)?;
@@ -97,15 +95,12 @@ fn profile_number(profile: Profile) -> u32
 
 /// The frames of the FIFO: a copy of it lets go of each that was written.
 fn put_fifo(out: &mut Vec<u8>, fifo: &Fifo) -> Result<(), AllocError>
-    ensures octets { OnOk result
+    ensures { OnOk result
         (out.new.items ≡ out.old.items ++ listed frame_form (shows fifo.now).frames) }
-    ensures tags { OnOk result (AreTagged (shows fifo.now).frames) }
-    ensures fifo { IsFifo (shows fifo.now) }
 {
     put_number(out, fifo.frames() as u64)?;
     let mut left = fifo.copy()?;
-    let _taken = fifo.taken();
-    for _k in 0..fifo.frames() {
+    for k in 0..fifo.frames() {
         let Some(frame) = left.first_frame() else {
             unreachable!();
         };
@@ -118,9 +113,7 @@ fn put_fifo(out: &mut Vec<u8>, fifo: &Fifo) -> Result<(), AllocError>
 
 /// A frame of the FIFO.
 fn put_frame(out: &mut Vec<u8>, frame: &StoredFrame<'_>) -> Result<(), AllocError>
-    ensures octets { (f : Frame) → LiesSo f frame.now
-        → OnOk result (out.new.items ≡ out.old.items ++ frame_form f) }
-    ensures tag { IsTag frame.now.tag }
+    ensures { (f : Frame) → LiesSo f frame.now → OnOk result (out.new.items ≡ out.old.items ++ frame_form f) }
 {
     put_word(out, tag_number(frame.tag))?;
     put_number(out, (frame.front.len() + frame.back.len()) as u64)?;
@@ -130,8 +123,7 @@ fn put_frame(out: &mut Vec<u8>, frame: &StoredFrame<'_>) -> Result<(), AllocErro
 
 /// The number of a tag, or of none.
 fn tag_number(tag: Option<u16>) -> u32
-    ensures number { result ≡ tag_number tag }
-    ensures tag { IsTag tag }
+    ensures { result ≡ tag_number tag }
 {
     match tag {
         Some(tag) => u32::from(tag),
