@@ -1,5 +1,5 @@
 //! Numbers in hexadecimal digits.
-ghost use Rattle.std.specs.Prelude.{◌≡◌, ◌<◌, ◌≤◌, true, drop};
+ghost use Rattle.std.specs.Prelude.{◌≡◌, ◌+◌, ◌<◌, ◌≤◌, ◌++◌, true, drop, length};
 ghost use Rattle.std.specs.Fmt.{digit_glyph};
 ghost use Rattle.em_text.specs.Writer.{value_digits};
 ghost use Rattle.em_kept.specs.Digits.{number_digits};
@@ -19,28 +19,32 @@ const PAST_VALUE: u8 = b'A' - NUMERALS;
 pub(crate) const MOST_DIGITS: usize = 16;
 
 /// The digits of a number, with no zero in front of them, in the room that is lent for them.
-#[inline(always)]
 pub(crate) fn number_digits(number: u64, room: &mut [u8; MOST_DIGITS]) -> &[u8]
     ensures { result.now ≡ number_digits number }
 {
-    let first = put_digits(number, room);
+    let first = put_digits(number, room, MOST_DIGITS);
     &room[first..]
 }
 
-/// Puts the digits of a number at the end of a room, the last one first, and tells where they begin.
+/// Puts the digits of a number before what stands in a line from `end` on, the last one first, and tells where they begin:
+/// a line is made from its end, so that no number is measured.
 #[inline(always)]
-fn put_digits(number: u64, room: &mut [u8; MOST_DIGITS]) -> usize
-    ensures within { result ≤ 16 }
-    ensures digits { drop result room.new ≡ number_digits number }
+pub(crate) fn put_digits(number: u64, line: &mut [u8], end: usize) -> usize
+    requires room { 16 ≤ end }
+    requires within { end ≤ length line.old }
+    ensures some { result < end }
+    ensures near { end ≤ result + 16 }
+    ensures len { length line.new ≡ length line.old }
+    ensures digits { drop result line.new ≡ number_digits number ++ drop end line.old }
 {
     let mut left = number;
-    let mut at = MOST_DIGITS - 1;
+    let mut at = end - 1;
     while left >= HEX {
-        room[at] = digit((left % HEX) as u8);
+        line[at] = digit((left % HEX) as u8);
         left /= HEX;
         at -= 1;
     }
-    room[at] = digit(left as u8);
+    line[at] = digit(left as u8);
     at
 }
 
