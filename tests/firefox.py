@@ -56,7 +56,10 @@ class WebSocket:
     def receive(self) -> str:
         parts = []
         while True:
-            first, second = self.file.read(2)
+            front = self.file.read(2)
+            if len(front) < 2:
+                raise OSError("Firefox is gone")
+            first, second = front
             size = second & 0x7F
             if size >= 126:
                 form = ">H" if size == 126 else ">Q"
