@@ -13,7 +13,7 @@
 #include <time.h>
 
 enum { CALLS = 10000000, BACK = 20000, SYNCS = 100000, MEMORY = 65536, TRIPS = 20000, KEPT = 1000000,
-       LARGE = 16777216 };
+       LARGE = 16777216, DESCRIPTORS = 256 };
 
 /* a descriptor and a frame, in two pages of memory */
 enum { RING = 0x1000, DESCRIPTOR = 16, BUFFER = 0x4200, FRAME = 1514 };
@@ -132,17 +132,17 @@ static void keep(const char *path, bool is_mapped, bool has_places) {
   printf("kept by %s, %s the caller's line\n", is_mapped ? "a mapping" : "write(2)", has_places ? "with" : "without");
   begin();
   for (uint32_t i = 0; i < KEPT / 2; i++) {
-    must(em_write(has_places ? EM_HERE(&machine) : &machine, RDT, i & 0xFFFF));
+    must(em_write(has_places ? EM_HERE(&machine) : &machine, RDT, i % DESCRIPTORS));
     must(em_read(has_places ? EM_HERE(&machine) : &machine, RDT, &value));
   }
   tell("a register access that is kept", KEPT);
+  if (!is_mapped) tell_size(path); /* (a mapping's file has blanks ahead) */
   if (has_places) {
     begin();
     for (int i = 0; i < TRIPS; i++) must(em_arrive(&machine, frame, FRAME, &event));
     tell("a frame of 1,514 octets that is kept", TRIPS);
   }
   em_free(&machine);
-  if (!has_places) tell_size(path);
   remove(path);
 }
 

@@ -74,9 +74,18 @@ static char *digits(char *to, const uint8_t *octets, size_t length) {
   return to;
 }
 
+/* in 8 digits, as an answer has them */
 static char *value_digits(char *to, uint32_t value) {
   const uint8_t octets[4] = {(uint8_t)(value >> 24), (uint8_t)(value >> 16), (uint8_t)(value >> 8), (uint8_t)value};
   return digits(to, octets, 4);
+}
+
+/* with no zero in front, as what was done has it */
+static char *number_digits(char *to, uint32_t value) {
+  int shift = 28;
+  while (shift > 0 && value >> shift == 0) shift -= 4;
+  for (; shift >= 0; shift -= 4) *to++ = "0123456789ABCDEF"[value >> shift & 15];
+  return to;
 }
 
 static char *text(char *to, const char *from) {
@@ -101,7 +110,7 @@ static void end_line(struct plain *p, char *to) {
   char decimal[10], *at = decimal + sizeof decimal;
   if (p->name != NULL) {
     uint32_t left = p->line;
-    to = text(text(text(to, " @ "), p->name), ":");
+    to = text(text(text(to, " @"), p->name), ":");
     do *--at = (char)('0' + left % 10);
     while (left /= 10);
     while (at < decimal + sizeof decimal) *to++ = *at++;
@@ -171,7 +180,7 @@ em_code em_write(em_machine *machine, uint32_t offset, uint32_t value) {
   else *word = value & p->masks[offset / 4];
   keep(p, EM_WRITE, offset, old, value);
   if (p->file >= 0) {
-    end_line(p, text(value_digits(text(value_digits(text(p->text, "w "), offset), " "), value), " = ok"));
+    end_line(p, text(number_digits(text(number_digits(text(p->text, "w "), offset), " "), value), " =ok"));
   }
   return EM_OK;
 }
@@ -182,7 +191,7 @@ em_code em_read(em_machine *machine, uint32_t offset, uint32_t *value) {
   *value = p->registers[offset / 4];
   if (offset == ICR) p->registers[ICR / 4] = 0;
   keep(p, EM_READ, offset, *value, *value);
-  if (p->file >= 0) end_line(p, value_digits(text(value_digits(text(p->text, "r "), offset), " = "), *value));
+  if (p->file >= 0) end_line(p, value_digits(text(number_digits(text(p->text, "r "), offset), " ="), *value));
   return EM_OK;
 }
 
@@ -245,7 +254,7 @@ em_code em_arrive(em_machine *machine, const uint8_t *frame, size_t length, em_n
   *event = (em_note){p->tag, 0, (uint32_t)length, 0, kind};
   *next(p) = (struct record){0, 0, NULL, *event, 0, 0};
   if (p->file >= 0) {
-    end_line(p, text(digits(text(p->text, "arrive "), frame, length), kind == EM_STORED ? " = stored" : " = dropped missed"));
+    end_line(p, text(digits(text(p->text, "arrive "), frame, length), kind == EM_STORED ? " =stored" : " =dropped missed"));
   }
   return EM_OK;
 }

@@ -33,6 +33,8 @@ OWN_CALLS = (
     "em_record_mapped(em_machine *machine, const char *path);",
     "em_recording_status(em_machine *machine, int *error);",
     "em_source(em_machine *machine, const char *file, uint32_t line);",
+    "em_save(const em_machine *machine, const char *path);",
+    "em_let_go_always(em_machine *machine, bool always);",
     "em_pcap_write(const em_machine *machine, const char *path, const uint64_t *nanoseconds);",
     "em_pcap_open(em_pcap *pcap, const char *path);",
 )
@@ -48,6 +50,8 @@ RUST_OWN_CALLS = (
     "em_record_mapped(machine: *mut Handle, path: *const c_char) -> u32;",
     "em_recording_status(machine: *mut Handle, error: *mut c_int) -> u32;",
     "em_source(machine: *mut Handle, file: *const c_char, line: u32) -> u32;",
+    "em_save(machine: *const Handle, path: *const c_char) -> u32;",
+    "em_let_go_always(machine: *mut Handle, always: bool) -> u32;",
     "em_pcap_write(machine: *const Handle, path: *const c_char, nanoseconds: *const u64) -> u32;",
     "em_pcap_open(pcap: *mut Pcap, path: *const c_char) -> u32;",
     "em_strerror(code: u32) -> *const c_char;",
@@ -60,6 +64,8 @@ PYTHON_OWN_CALLS = (
     '"em_record_mapped": [POINTER(Handle), c_char_p],',
     '"em_recording_status": [POINTER(Handle), POINTER(c_int)],',
     '"em_source": [POINTER(Handle), c_char_p, c_uint32],',
+    '"em_save": [POINTER(Handle), c_char_p],',
+    '"em_let_go_always": [POINTER(Handle), c_bool],',
     '"em_pcap_write": [POINTER(Handle), c_char_p, POINTER(c_uint64)],',
     '"em_pcap_open": [POINTER(Pcap), c_char_p],',
     '"em_strerror": [c_uint32],',
@@ -112,7 +118,7 @@ def passed(parameter: Field, call: Call) -> list[tuple[str, str, str, str]]:
         return [("in" if call.looks and name == "machine" else "out", "EmMachine", "", name)]
     array = re.fullmatch(r"&(mut )?\[(\w+); (\w+)\]", kind)
     if array:
-        count = {"EEPROM_WORDS": "64", "RULES": "6"}.get(array[3], array[3])
+        count = {"EEPROM_WORDS": "64", "RULES": "10"}.get(array[3], array[3])
         return [("out" if array[1] else "in", array[2], count, name)]
     there = re.fullmatch(r"&(mut )?\[(\w+)\]", kind)
     if there:

@@ -1,5 +1,5 @@
 /* The run of a guest as a script of em_bench's language, line by line as its events are performed. (The library keeps
-   runs too, by em_record_to. docs/DECISIONS.md says what its lines lack here.) */
+   runs too, by em_record_to. docs/team/DECISIONS.md says what its lines lack here.) */
 #ifndef GUEST_RUN_H
 #define GUEST_RUN_H
 

@@ -10,10 +10,11 @@
 
 static const char warning[] = "warning ";
 
-/* The rules that em_debug warns by, as docs/warnings.md has them. */
+/* The rules that em_debug warns by, as docs/debugger.md has them. */
 static const char *const rules[] = {
-    "bits-dropped", "tail-past-ring",          "enabled-before-ring", "descriptor-unwritten",
-    "status-left",  "interrupts-before-rings", "read-again"};
+    "bits-dropped",          "tail-past-ring",      "enabled-before-ring", "descriptor-unwritten", "status-left",
+    "interrupts-before-rings", "ring-outside-memory", "buffers-overlap",     "tail-past-head",       "head-while-enabled",
+    "written-while-owned",   "read-again"};
 
 static bool parse_count(const char *text, uint64_t *count) {
   char *end;

@@ -89,23 +89,18 @@ class TimeAxis {
   }
 }
 
-/** Whether any line of a script has a time. @param {string[]} script */
-function hasTimes(script) {
-  return script.some((line) => line.includes("#") && timeOf(line) !== null);
-}
-
 /**
  * When each step was, in microseconds: the latest time of a line up to its own, as a capture of sent frames has it; NaN before
  * the first one.
  * @param {Run} run @returns {Float64Array}
  */
-function stepTimes({ script, steps }) {
+function stepTimes({ lines, steps }) {
   const times = new Float64Array(steps.length);
   let latest = NaN, line = 0;
   for (let step = 0; step < steps.length; step++) {
     for (const end = steps.lines.at(step); line < end; line++) {
-      const time = script[line].includes("#") ? timeOf(script[line]) : null;
-      if (time) latest = time[0] * MICROS + time[1] / MICROSECONDS;
+      const time = lines.times.at(line);
+      if (!Number.isNaN(time)) latest = time;
     }
     times[step] = latest;
   }
@@ -149,7 +144,7 @@ class Axes {
   /** @param {Run} run */
   constructor(run) {
     this.steps = new StepAxis(run.steps.length);
-    this.times = hasTimes(run.script) ? stepTimes(run) : null;
+    this.times = run.lines.hasTimes ? stepTimes(run) : null;
     // (lines with times may have no step)
     if (this.times?.every(Number.isNaN)) this.times = null;
     /** @type {TimeAxis|null} */

@@ -13,7 +13,8 @@ const LEAST_STRENGTH = 0.3;
 /** How tall a kind's part of a column is at least. */
 const LEAST_PART = 2;
 /** The marks in their order, from the top down. */
-const MARK_ORDER = ["refused", "bad", "differs", "dropped"];
+const MARK_ORDER = ["refused", "bad", "differs", "dropped", "warning"];
+const WARNED = 1 << MARK_KINDS.indexOf("warning");
 
 /**
  * Steps by columns.
@@ -34,7 +35,7 @@ function columnsOf(steps, { axis, first, cell }, width) {
     const column = Math.max(0, Math.min(count - 1, Math.floor((axis.at(step) - first) * cell))), kind = steps.kinds.at(step);
     const isGone = performs.at(step) ? takenBack.at(places.at(step)) !== NEVER : kind === back;
     (isGone ? gone : kinds)[column * KIND_COUNT + kind] += 1;
-    marks[column] |= 1 << steps.marks.at(step);
+    marks[column] |= (1 << steps.marks.at(step)) | (steps.warned.at(step) ? WARNED : 0);
   }
   return { count, kinds, gone, marks };
 }
@@ -60,7 +61,7 @@ function paintShares(context, counts, column, y, tall, wide = 1) {
 
 /** The colour of a mark. */
 function markColour(mark) {
-  return palette[mark === "dropped" || mark === "differs" ? "warn" : "bad"];
+  return palette[mark === "refused" || mark === "bad" ? "bad" : "warn"];
 }
 
 /** Draws the marks of columns, a row for each that the run has. @param {string[]} order of the rows */
@@ -80,7 +81,7 @@ class WholeRun {
   constructor({ steps }) {
     this.steps = steps;
     this.kinds = STEP_KINDS.filter((kind) => kind !== "start" && has(steps.kinds, KIND_NUMBER.get(kind)));
-    this.marks = MARK_ORDER.filter((mark) => has(steps.marks, MARK_KINDS.indexOf(mark)));
+    this.marks = MARK_ORDER.filter((mark) => steps.marked(mark) > 0);
   }
 
   /** Whether a run is drawn so, in so many points. */

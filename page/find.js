@@ -61,6 +61,7 @@ const TERMS = {
     wrong: "is no value: up to eight hexadecimal digits" },
   line: { of: lineRange, wrong: "is no line, and no range as 10-20" },
   source: { of: (word) => word || undefined, wrong: "is no source" },
+  reason: { of: (word) => word || undefined, wrong: "is no reason" },
   kind: { of: (word) => KIND_NUMBER.get(word.toLowerCase()), wrong: `is none of ${STEP_KINDS.join(", ")}` },
   is: { of: (word) => IS_WORDS.find((one) => one === word.toLowerCase()), wrong: `is none of ${IS_WORDS.join(", ")}` },
   frame: { of: frameTerm, wrong: `is none of ${frameNames().join(", ")}, and no octets as 0A000202` },
@@ -134,8 +135,15 @@ class Finder {
       }
       case "source": {
         const holds = this.haystack("sources", lines.texts.list).holds(value);
-        const line = (number) => number > 0 && holds[lines.sources[number - 1]] === 1;
+        const line = (number) => number > 0 && holds[lines.sources.at(number - 1)] === 1;
         return { step: (step) => line(steps.lines.at(step)), line };
+      }
+      case "reason": {
+        const holds = this.haystack("reasons", lines.whyTexts.list).holds(value);
+        return { step: (step) => {
+          const number = steps.lines.at(step);
+          return number > 0 && lines.lasts.at(number - 1) === step && holds[lines.whys.at(number - 1)] === 1;
+        } };
       }
       case "kind": return { step: (step) => steps.kinds.at(step) === value };
       case "is": return this.marked(value);
@@ -169,6 +177,7 @@ class Finder {
   marked(value) {
     const { steps, unlike } = this.run, mark = MARK_KINDS.indexOf(value);
     if (value === UNLIKE) return { step: (step) => unlike?.[step] === 1 };
+    if (value === "warning") return { step: (step) => steps.warned.at(step) === 1 };
     return { step: value === GONE ? (step) => steps.performs.at(step) === 1 && steps.isOnBranch(step)
       : (step) => steps.marks.at(step) === mark };
   }
@@ -183,12 +192,12 @@ class Finder {
     const own = this.haystack("script", script).holds(words);
     const answers = this.haystack("answers", lines.answerTexts.list).holds(words);
     const sources = this.haystack("sources", lines.texts.list).holds(words);
-    const line = (number) => number > 0 && (own[number - 1] === 1 || answers[lines.answers[number - 1]] === 1
-      || sources[lines.sources[number - 1]] === 1);
+    const line = (number) => number > 0 && (own[number - 1] === 1 || answers[lines.answers.at(number - 1)] === 1
+      || sources[lines.sources.at(number - 1)] === 1);
     const ofEvent = (step) => steps.performs.at(step) === 1 && events[text.at(steps.places.at(step))] === 1;
     return { line, step: (step) => {
       const number = steps.lines.at(step);
-      return ofEvent(step) || (number > 0 && lines.lasts[number - 1] === step && line(number));
+      return ofEvent(step) || (number > 0 && lines.lasts.at(number - 1) === step && line(number));
     } };
   }
 
@@ -218,7 +227,7 @@ class Finder {
     let step = 0, number = 1;
     const addLines = (before) => {
       for (; number < before; number++) {
-        const played = lines.marks[number - 1] > 0, last = played ? lines.lasts[number - 1] : found.length - 1;
+        const played = number <= lines.count, last = played ? lines.lasts.at(number - 1) : found.length - 1;
         if ((!played || lineOf.at(last) !== number) && ofLines.every((holds) => holds(number))) add(last, number);
       }
     };

@@ -12,6 +12,10 @@ const MOST_DIGITS = 15;
 /** What an event has that changed no register or no memory. @type {number[]} */
 const NO_NUMBERS = [];
 const NO_OCTETS = new Uint8Array(0);
+/** What a line has that answered nothing, or performed no event. @type {string[]} */
+const NO_TEXTS = [];
+/** @type {Given[]} */
+const NO_EVENTS = [];
 /** In so many places names of registers are looked up. */
 const NAME_PLACES = 4_096;
 
@@ -103,8 +107,9 @@ function standsAt(octets, at, word) {
 const WORDS = {
   true: lettersOf('true'), false: lettersOf('false'), line: lettersOf('{"line":'), kind: lettersOf(',"kind":"'),
   answers: lettersOf(',"answer":['), refused: lettersOf(',"refused":"'), bad: lettersOf(',"bad":true'),
-  expected: lettersOf(',"expected":"'), differs: lettersOf(',"differs":"'), source: lettersOf(',"source":"'),
-  back: lettersOf(',"back":'), events: lettersOf(',"events":['), event: lettersOf('{"event":'),
+  why: lettersOf(',"why":"'), warnings: lettersOf(',"warnings":['), expected: lettersOf(',"expected":"'),
+  differs: lettersOf(',"differs":"'), source: lettersOf(',"source":"'), time: lettersOf(',"time":'),
+  back: lettersOf(',"back":'), events: lettersOf(',"events":'), event: lettersOf('{"event":'),
   text: lettersOf(',"text":"'), registers: lettersOf(',"registers":['), memory: lettersOf(',"memory":['),
   frames: lettersOf(',"frames":['), stored: lettersOf(',"stored":"'), gathered: lettersOf(',"gathered":['),
   sent: lettersOf(',"sent":"'), link: lettersOf(',"link":['), interrupt: lettersOf(',"interrupt":['),
@@ -127,7 +132,8 @@ class LineReader {
   }
 
   /**
-   * The line from a place of some octets on, behind which the next one stands then; null where it has another form.
+   * The line from a place of some octets on with its events, behind which the next one stands then; null where it has
+   * another form, or not all of it is there.
    * @param {Uint8Array} octets
    */
   read(octets, from) {
@@ -135,8 +141,6 @@ class LineReader {
     this.at = from;
     this.isOdd = false;
     const line = this.line();
-    this.isMark(COMMA);
-    if (!this.isMark(NEWLINE) && this.at < octets.length) this.isOdd = true;
     return this.isOdd ? null : line;
   }
 
@@ -233,31 +237,52 @@ class LineReader {
     return 0;
   }
 
+  /** Texts up to the end of their list. @private */
+  strings() {
+    const list = [];
+    while (!this.isOdd && !this.isMark(CLOSED)) {
+      if (list.length) this.wantMark(COMMA);
+      this.wantMark(QUOTE);
+      list.push(this.string());
+    }
+    return list;
+  }
+
   /** @private */
   line() {
     this.want(WORDS.line);
-    const line = { isGiven: true, line: this.number(), kind: undefined, answer: [], refused: undefined, bad: undefined,
-      expected: undefined, differs: undefined, source: undefined, back: undefined, events: [] };
+    const line = { isGiven: true, line: this.number(), text: "", kind: undefined, answer: NO_TEXTS, refused: undefined,
+      bad: undefined, why: undefined, warnings: undefined, expected: undefined, differs: undefined, source: undefined,
+      time: undefined, back: undefined, events: NO_EVENTS };
+    if (this.is(WORDS.text)) line.text = this.string();
     if (this.is(WORDS.kind)) line.kind = this.string();
-    this.want(WORDS.answers);
-    while (!this.isOdd && !this.isMark(CLOSED)) {
-      if (line.answer.length) this.wantMark(COMMA);
-      this.wantMark(QUOTE);
-      line.answer.push(this.string());
-    }
+    if (this.is(WORDS.answers)) line.answer = this.strings();
     if (this.is(WORDS.refused)) line.refused = this.string();
     if (this.is(WORDS.bad)) line.bad = true;
+    if (this.is(WORDS.why)) line.why = this.string();
+    if (this.is(WORDS.warnings)) line.warnings = this.strings();
     if (this.is(WORDS.expected)) line.expected = this.string();
     if (this.is(WORDS.differs)) line.differs = this.string();
     if (this.is(WORDS.source)) line.source = this.string();
+    if (this.is(WORDS.time)) line.time = this.most(MOST_TIME);
     if (this.is(WORDS.back)) line.back = this.number();
-    this.want(WORDS.events);
-    while (!this.isOdd && !this.isMark(CLOSED)) {
-      if (line.events.length) this.wantMark(COMMA);
-      line.events.push(this.event());
-    }
-    this.wantMark(ENDED);
+    const count = this.is(WORDS.events) ? this.number() : 0;
+    this.wantEnd();
+    if (count && !this.isOdd) line.events = this.events(count);
     return line;
+  }
+
+  /** The end of an object and of its line. @private */
+  wantEnd() {
+    this.wantMark(ENDED);
+    this.wantMark(NEWLINE);
+  }
+
+  /** So many events, each a line. @private */
+  events(count) {
+    const events = [];
+    for (let i = 0; i < count && !this.isOdd; i++) events.push(this.event());
+    return events;
   }
 
   /** @private */
@@ -280,7 +305,7 @@ class LineReader {
     }
     if (this.is(WORDS.link)) given.link = this.booleans();
     if (this.is(WORDS.interrupt)) given.interrupt = this.booleans();
-    this.wantMark(ENDED);
+    this.wantEnd();
     return given;
   }
 

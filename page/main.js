@@ -313,7 +313,7 @@ function show(reads) {
 
 /** Reads a packed record. @param {string} letters @returns {Promise<{run: Run|null, fault: string|null}>} */
 async function readPacked(letters) {
-  const told = byId("reading"), packed = new PackedReading();
+  const told = byId("reading"), packed = new Reading();
   setHidden(told, false);
   try {
     await unpack(letters, (part) => packed.take(part),

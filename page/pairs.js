@@ -78,7 +78,7 @@ class Happenings {
   /** The text of the record of an event that is its line's only one; null of another. */
   text(number) {
     const { places, lines } = this.run, line = places.line(number);
-    return lines.firsts[line - 1] === lines.lasts[line - 1] ? lines.source.only(lines.record(line)) : null;
+    return lines.firsts.at(line - 1) === lines.lasts.at(line - 1) ? lines.source.only(lines.record(line)) : null;
   }
 
   /** The record of an event. */

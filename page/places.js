@@ -42,7 +42,7 @@ function changeOf(event) {
 
 /** The events of a run by their numbers; number 0 is the start. */
 class Places {
-  /** @param {Source} source @param {Steps} steps @param {Lines} lines */
+  /** @param {LineSource} source @param {Steps} steps @param {Lines} lines */
   constructor(source, steps, lines) {
     Object.assign(this, { source, steps, lines });
     /** By event: the event before it, how many events stand there, and the steps that performed it and took it back. */
@@ -298,7 +298,7 @@ class FrameList {
   /** The digits of a frame, found in the record; null where it does not have them. */
   digits(number) {
     const { places, field } = this, { lines, source } = places, event = this.event.at(number);
-    const line = places.line(event), isAlone = lines.firsts[line - 1] === lines.lasts[line - 1];
+    const line = places.line(event), isAlone = lines.firsts.at(line - 1) === lines.lasts.at(line - 1);
     return (isAlone ? source.frame(lines.record(line), field) : places.of(event)[field]) ?? null;
   }
 }

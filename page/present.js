@@ -32,6 +32,10 @@ class Present {
     if (now.performs) parts.push(make("p", { class: "code", id: "was" }, visible(shortened(place.text, 400))));
     if (now.line) parts.push(make("p", { class: "code" }, visible(shortened(run.script[now.line - 1], 400))));
     if (line && line.answer.length) parts.push(this.answer(line));
+    if (line) {
+      parts.push(...line.warnings.map((text) => make("p", { class: "code warned" },
+        `${MARKS.warning[0]} ${visible(shortened(text, 400))}`)));
+    }
     if (line && line.differs) parts.push(make("p", { class: "note" }, `≠ ${visible(shortened(line.differs, 400))}`));
     if (line && line.source) parts.push(make("p", { class: "note" }, `@ ${visible(shortened(line.source, 400))}`));
     const time = app.timeline.axes.text(step);
@@ -73,7 +77,8 @@ class Present {
   answer(line) {
     const isLast = this.app.step === line.last;
     const text = line.answer.slice(0, 12).map((part) => visible(shortened(part, 400))).join("\n")
-      + (line.answer.length > 12 ? `\n… ${line.answer.length} lines` : "");
+      + (line.answer.length > 12 ? `\n… ${line.answer.length} lines` : "")
+      + (line.why ? `: ${visible(shortened(line.why, 400))}` : "");
     const sign = line.mark && isLast ? `${MARKS[line.mark][0]} ` : "";
     return make("p", { class: `code answer${sign ? ` mark-${line.mark}` : ""}` }, `→ ${sign}${text}`);
   }

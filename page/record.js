@@ -1,7 +1,7 @@
 // Reads a record of a run. A record is data, whoever made it: what contradicts the format or itself is named.
 
 const FORMAT = "bunjelav recording";
-const VERSION = 2;
+const VERSION = 3;
 /** Where guest memory ends at most. */
 const MOST_MEMORY = 2 ** 40;
 /** The bit of STATUS that says that the link is up. */
@@ -9,6 +9,9 @@ const LINK_UP = 1;
 /** What an event can be. */
 const EVENT_KINDS = new Set(EVENT_KIND_LIST);
 const MOST_WORD = 0xFFFFFFFF;
+/** What a number of events or a time is at most. */
+const MOST_EVENTS = 2 ** 32;
+const MOST_TIME = Number.MAX_SAFE_INTEGER;
 /** Of so many texts of events it is kept that they were found right. */
 const MOST_SAID = 65_536;
 /** What a line can be. A plan is drawn as a look is, since it does nothing by itself. */
@@ -36,38 +39,26 @@ class Broken extends Error {}
  * @returns {{run: Run|null, fault: string|null}} the run is null where not even its start can be read
  */
 function readRecord(parts) {
-  const byLines = LineSource.of(parts);
-  const isShort = parts.reduce((sum, part) => sum + part.length, 0) <= MOST_AT_ONCE;
-  if (byLines) {
-    const read = readFrom(() => byLines);
-    if (!read.fault || !isShort) return read;
-  }
-  if (!isShort) return { run: null, fault: "it is not written line by line, and too long to be read so" };
-  return readFrom(() => new WholeSource(textOf(joined(parts))));
-}
-
-/** @param {() => Source} begin */
-function readFrom(begin) {
   const reading = new Reading();
-  reading.try(() => {
-    const source = begin();
-    reading.begin(source);
-    source.each(reading.take);
-  });
+  for (const part of parts) reading.take(part);
   return reading.end();
 }
 
-/** A record that is being read. What is wrong with it ends that. */
+/** A record that is read as it comes. What is wrong with it ends that. */
 class Reading {
   constructor() {
-    this.source = null;
+    this.source = new LineSource();
+    /** @type {Reader|null} */
     this.reader = null;
     /** @type {string|null} */
     this.fault = null;
-    this.take = (line, index) => this.reader.next(line, index);
+    this.begin = (head) => {
+      this.reader = new Reader(head, this.source);
+    };
+    this.next = (line, index) => this.reader.next(line, index);
   }
 
-  /** Does a part of it, where nothing was wrong before. */
+  /** Does a part of it, where nothing was wrong before. @private */
   try(work) {
     if (this.fault !== null) return;
     try {
@@ -78,50 +69,18 @@ class Reading {
     }
   }
 
-  begin(source) {
-    this.source = source;
-    this.reader = new Reader(source);
-  }
-
-  /** @returns {{run: Run|null, fault: string|null}} */
-  end() {
-    this.try(() => this.reader.end(this.source.end()));
-    return { run: this.reader && this.reader.run, fault: this.fault };
-  }
-}
-
-/** A packed record that is read as it comes. */
-class PackedReading {
-  constructor() {
-    this.reading = new Reading();
-    this.parts = [];
-  }
-
-  /** @param {Uint8Array} part */
+  /** @param {Uint8Array} part of its octets */
   take(part) {
-    const { reading, parts } = this;
-    parts.push(part);
-    if (reading.source) {
-      reading.try(() => reading.source.eachOf(part, reading.take));
-      return;
-    }
-    // (parts are whole lines)
-    if (linesBegin(joined([Uint8Array.of(NEWLINE), part])) < 0) return;
-    const source = LineSource.of([joined(parts)]);
-    if (!source) return;
-    reading.try(() => {
-      reading.begin(source);
-      for (const one of source.waiting) source.eachOf(one, reading.take);
-    });
+    this.try(() => this.source.take(part, this.begin, this.next));
   }
 
   /** @returns {{run: Run|null, fault: string|null}} */
   end() {
-    const { reading, parts } = this;
-    reading.try(() => want(reading.source?.isBehind, reading.source?.cut() ?? ""));
-    const read = reading.end();
-    const isShort = parts.reduce((sum, { length }) => sum + length, 0) <= MOST_AT_ONCE;
-    return read.fault === null || (read.run && !isShort) ? read : readRecord([joined(parts)]);
+    this.try(() => {
+      const end = this.source.end(this.begin, this.next);
+      this.reader.end(end);
+    });
+    return { run: this.reader && this.reader.run, fault: this.fault };
   }
 }
 
@@ -143,19 +102,18 @@ const isPair = (value, type) => Array.isArray(value) && value.length === 2 && va
 
 /** Reads the parts of a record, in their order; `run` is what was read so far. */
 class Reader {
-  /** @param {Source} source */
-  constructor(source) {
-    const { settings, script, start } = source.record;
+  /** @param {Object} head what the first line says @param {LineSource} source */
+  constructor(head, source) {
+    const { settings, start } = head;
     want(isObject(settings) && isNumber(settings.memory, MOST_MEMORY) && settings.memory >= PAGE_OCTETS
       && settings.memory % PAGE_OCTETS === 0, "its size of memory is none that an adapter can have");
     const { base = 0 } = settings;
     want(isNumber(base, MOST_MEMORY - settings.memory) && base % PAGE_OCTETS === 0,
       "no adapter can have its memory where it lies");
-    want(isTexts(script), "its script is no list of texts");
     const { profile } = settings;
     want(profile === undefined || profile === "adapter", "its adapter is of a profile that this page does not know");
     const registers = startRegisters(start, profile);
-    const steps = new Steps(), lines = new Lines(source, script.length);
+    const steps = new Steps(), lines = new Lines(source);
     const places = new Places(source, steps, lines);
     steps.events = places;
     /** How many events the lines so far performed, those taken back since among them. */
@@ -165,7 +123,7 @@ class Reader {
     this.index = 0;
     /** @type {Run} */
     this.run = {
-      settings, script, lines, steps, places, touched: [Infinity, -Infinity], ended: false,
+      settings, script: [], lines, steps, places, touched: [Infinity, -Infinity], ended: false,
       registers: registers.slice(), state: new State(places, registers, new Memory(base, settings.memory)),
     };
     /** By text of an event, one that was found to say the same in its fields. @type {Given[]} */
@@ -175,9 +133,10 @@ class Reader {
 
   /** Reads the record of the next line. */
   next(line, index) {
-    if (!isObject(line) || !isNumber(line.line, this.run.script.length) || line.line <= this.number) {
-      fail(`what follows line ${this.number} is not a later line of its script`);
-    }
+    if (line.line !== this.number + 1) fail(`what follows line ${this.number} is not the next line of its script`);
+    const { text = "" } = line;
+    if (typeof text !== "string") fail(`the text of line ${line.line} is no text`);
+    this.run.script.push(text);
     this.number = line.line;
     this.index = index;
     this.line(line, `line ${this.number}`);
@@ -198,14 +157,14 @@ class Reader {
     const { steps, lines } = this.run;
     checkLine(line, name);
     const first = steps.length, mark = markOf(line), { kind } = line;
-    lines.begin(line.line, this.index);
+    lines.begin(this.index);
     if (line.back !== undefined) this.back(line, name);
     for (let index = 0; index < line.events.length; index++) {
       if (!isObject(line.events[index])) fail(`an event of ${name} is no object`);
       this.event(line.events[index], line, index + 1);
     }
     if (steps.length === first && (kind !== undefined || line.bad)) {
-      this.add(kind === undefined || kind === "plan" ? "look" : kind, mark, line.line, false);
+      this.add(kind === undefined || kind === "plan" ? "look" : kind, mark, line.line, false, isWarned(line));
     }
     const last = steps.length - 1;
     lines.add(line, mark, Math.min(first, last), last);
@@ -241,8 +200,8 @@ class Reader {
     if (state.isDue(number)) state.keep();
     const isLast = access === line.events.length;
     const mark = given.answer === "dropped" ? "dropped" : isLast && line.refused !== undefined ? "refused"
-      : isLast && line.differs ? "differs" : "";
-    this.add(given.kind, mark, line.line, true);
+      : isLast && line.differs ? "differs" : isLast && isWarned(line) ? "warning" : "";
+    this.add(given.kind, mark, line.line, true, isLast && isWarned(line));
     if (this.said[text] === given) given.settle();
   }
 
@@ -289,8 +248,8 @@ class Reader {
   }
 
   /** @private */
-  add(kind, mark, line, performs) {
-    this.run.steps.add(kind, mark, line, performs, this.run.state);
+  add(kind, mark, line, performs, warned = false) {
+    this.run.steps.add(kind, mark, line, performs, this.run.state, warned);
   }
 
   /** @private @param {Given} given */
@@ -353,12 +312,13 @@ function checkLine(line, name) {
   if (line.kind !== undefined && !LINE_KINDS.has(line.kind)) fail(`${name} is of no kind that there is`);
   // (what was read without JSON has the right form)
   if (line.isGiven) return;
-  if (!isTexts(line.answer)) fail(`the answer of ${name} is no list of texts`);
-  if (line.refused !== undefined && typeof line.refused !== "string") fail(`the refusal of ${name} is no text`);
-  if (!Array.isArray(line.events)) fail(`${name} has no list of events`);
-  for (const field of ["expected", "differs", "source"]) {
+  for (const field of ["answer", "warnings"]) {
+    if (line[field] !== undefined && !isTexts(line[field])) fail(`“${field}” of ${name} is no list of texts`);
+  }
+  for (const field of ["refused", "why", "expected", "differs", "source"]) {
     if (line[field] !== undefined && typeof line[field] !== "string") fail(`“${field}” of ${name} is no text`);
   }
+  if (line.time !== undefined && !isNumber(line.time, MOST_TIME)) fail(`the time of ${name} is none`);
 }
 
 function startRegisters(start, profile) {
@@ -379,7 +339,17 @@ function markOf(line) {
   if (line.bad) return "bad";
   if (line.refused !== undefined) return "refused";
   if (line.events.length === 1 && line.events[0]?.answer === "dropped") return "dropped";
-  return line.differs ? "differs" : "";
+  return line.differs ? "differs" : isWarned(line) ? "warning" : "";
+}
+
+/** Whether a line has a warning. */
+function isWarned({ warnings }) {
+  return warnings !== undefined && warnings.length > 0;
+}
+
+/** How a line is called where it has a number. */
+function lineName(line) {
+  return isNumber(line.line, Infinity) ? `line ${line.line}` : "a line";
 }
 
 const isAccess = (event) => event.kind === "read" || event.kind === "write";

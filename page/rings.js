@@ -115,7 +115,7 @@ function claimsOf(state, ring) {
 }
 
 /**
- * What is wrong with a live descriptor first, in the order of docs/inspect.md.
+ * What is wrong with a live descriptor first, in the order of docs/debugger.md.
  * @param {[number, number, number][]} claims
  */
 function troubleOf(state, ring, descriptor, claims) {
@@ -137,7 +137,7 @@ function troubleOf(state, ring, descriptor, claims) {
   return other ? `its buffer lies over that of ${other[0]}` : "";
 }
 
-/** Whether a live descriptor's buffer lies over the other ring, which docs/inspect.md does not ask. */
+/** Whether a live descriptor's buffer lies over the other ring, which docs/debugger.md does not ask. */
 function overOther(state, ring, { live, isExtended, at, size }) {
   const [side, words] = ring.side === "rx" ? ["tx", "transmit"] : ["rx", "receive"];
   const other = ringOf(state, side);

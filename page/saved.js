@@ -4,39 +4,26 @@
 /** A classic capture with the lowest octet first: times in nanoseconds, version 2.4, snap length 65,535, Ethernet. */
 const CAPTURE_HEADER = [0xA1B23C4D, 0x00040002, 0, 0, 65_535, 1];
 const RECORD_WORDS = 4;
-const MICROSECONDS = 1_000, SECOND = 1_000_000_000, MOST_SECONDS = 2 ** 32;
-/** The comment behind a line: the first word that begins with `#`, and what follows. */
-const COMMENT = /(?:^|[ \t\r])#(.*)$/s;
-/** A comment that is a time: seconds, a point, and six digits. */
-const TIME = /^[ \t\r]*(\d+)\.(\d{6})[ \t\r]*$/;
+const MICROSECONDS = 1_000;
 
 /**
- * The time that a line's comment is, as seconds and nanoseconds; null where it is none.
- * @returns {[number, number]|null}
+ * When each of these lines came, as seconds and nanoseconds: the latest time of a line up to it; before the first one,
+ * its number in microseconds.
+ * @param {Lines} lines @param {number[]} numbers of lines, in their order @returns {[number, number][]}
  */
-function timeOf(line) {
-  const [, seconds, micros] = TIME.exec(COMMENT.exec(line)?.[1] ?? "") ?? [];
-  if (seconds === undefined || Number(seconds) >= MOST_SECONDS) return null;
-  return [Number(seconds), MICROSECONDS * Number(micros)];
-}
-
-/**
- * When each of these lines came: the latest time of a line up to it; before the first one, its number in microseconds.
- * @param {string[]} script @param {number[]} numbers of lines, in their order @returns {[number, number][]}
- */
-function timesOf(script, numbers) {
-  let latest = null, line = 0;
+function timesOf({ times }, numbers) {
+  let latest = NaN, line = 0;
   return numbers.map((number) => {
-    for (; line < number; line++) latest = timeOf(script[line]) ?? latest;
-    const nanoseconds = MICROSECONDS * number;
-    return latest ?? [Math.floor(nanoseconds / SECOND), nanoseconds % SECOND];
+    for (; line < number; line++) if (!Number.isNaN(times.at(line))) latest = times.at(line);
+    const time = Number.isNaN(latest) ? number : latest;
+    return [Math.floor(time / MICROS), MICROSECONDS * (time % MICROS)];
   });
 }
 
 /** The frames that were sent up to a place, the first one first, as a capture. @returns {Uint8Array[]} its pieces */
 function captureOf(run, place) {
   const frames = sentFrames(place, Infinity).reverse();
-  const times = timesOf(run.script, frames.map((frame) => frame.place.line));
+  const times = timesOf(run.lines, frames.map((frame) => frame.place.line));
   const pieces = [littleWords(CAPTURE_HEADER)];
   frames.forEach((frame, index) => {
     const octets = octetsOf(frame.list.digits(frame.number));

@@ -24,8 +24,9 @@ function sourcesOf({ lines, steps }) {
   const found = lines.texts.list.map((text) => (
     { text, events: new Numbers(Uint32Array), others: new Numbers(Uint32Array) }));
   for (let number = 1; number <= lines.sources.length; number++) {
-    if (!lines.sources[number - 1]) continue;
-    const { events, others } = found[lines.sources[number - 1]], { first, last } = lines.at(number);
+    const source = lines.sources.at(number - 1);
+    if (!source) continue;
+    const { events, others } = found[source], { first, last } = lines.at(number);
     let own = 0;
     for (let step = first; step <= last; step++) {
       if (steps.lines.at(step) !== number) continue;

@@ -6,13 +6,16 @@ const EVENT_KIND_LIST = ["read", "write", "poke", "arrive", "rx", "tx", "link"];
 const STEP_KINDS = ["start", ...EVENT_KIND_LIST, "driver", "look", "back"];
 const KIND_NUMBER = new Map(STEP_KINDS.map((kind, number) => [kind, number]));
 /** How a step or a line can come out, by the number in its column. */
-const MARK_KINDS = ["", "refused", "dropped", "bad", "differs"];
+const MARK_KINDS = ["", "refused", "dropped", "bad", "differs", "warning"];
+
+/** So many warnings of a line are counted. */
+const MOST_WARNED = 255;
 
 /**
  * A step of the run: an event, a reverse step, or a line that did nothing.
  * @typedef {Object} Step
  * @property {"start"|"read"|"write"|"poke"|"arrive"|"rx"|"tx"|"link"|"driver"|"look"|"back"} kind
- * @property {""|"refused"|"dropped"|"bad"|"differs"} mark
+ * @property {""|"refused"|"dropped"|"bad"|"differs"|"warning"} mark
  * @property {number} line its number from 1; 0 for the start
  * @property {Place} place behind it
  * @property {boolean} performs whether it performed the event of its place
@@ -23,6 +26,8 @@ class Steps {
     this.kinds = new Numbers(Uint8Array);
     this.marks = new Numbers(Uint8Array);
     this.performs = new Numbers(Uint8Array);
+    /** Whether its line has warnings, of the line's last one. A step that has a mark besides is found by both. */
+    this.warned = new Numbers(Uint8Array);
     this.lines = new Numbers(Uint32Array);
     /** The numbers of their places. */
     this.places = new Numbers(Uint32Array);
@@ -41,11 +46,12 @@ class Steps {
     return this.kinds.length;
   }
 
-  /** @param {State} state behind it */
-  add(kind, mark, line, performs, state) {
+  /** @param {State} state behind it @param {boolean} isWarned whether its line has warnings */
+  add(kind, mark, line, performs, state, isWarned) {
     this.kinds.push(KIND_NUMBER.get(kind));
     this.marks.push(MARK_KINDS.indexOf(mark));
     this.performs.push(performs ? 1 : 0);
+    this.warned.push(isWarned ? 1 : 0);
     if (performs) this.performed += 1;
     this.lines.push(line);
     this.places.push(state.number);
@@ -70,6 +76,12 @@ class Steps {
     return MARK_KINDS[this.marks.at(index)];
   }
 
+  /** How many came out so. */
+  marked(mark) {
+    const [column, value] = mark === "warning" ? [this.warned, 1] : [this.marks, MARK_KINDS.indexOf(mark)];
+    return countOf(column.values.subarray(0, column.length), value);
+  }
+
   /** Whether a step lies on a branch that was taken back. */
   isOnBranch(index) {
     return this.performs.at(index) ? this.events.takenBack.at(this.places.at(index)) !== NEVER
@@ -79,57 +91,71 @@ class Steps {
 
 /** The lines of a script, by their numbers from 1: where each one's record is, and its steps. */
 class Lines {
-  /** @param {Source} source @param {number} count */
-  constructor(source, count) {
+  /** @param {LineSource} source */
+  constructor(source) {
     this.source = source;
-    /** By line less 1: the place of its record; one more than its mark's number, or 0 of a line that was not played. */
-    this.records = new Uint32Array(count);
-    this.marks = new Uint8Array(count);
+    /** By line less 1: the place of its record, and one more than its mark's number. */
+    this.records = new Numbers(Uint32Array);
+    this.marks = new Numbers(Uint8Array);
     /** Where it comes from, by the number of that text; of most lines it is empty. */
-    this.sources = new Uint32Array(count);
+    this.sources = new Numbers(Uint32Array);
     this.texts = new Texts();
-    this.texts.numberOf("");
-    /** What it answered and how that differs, to be sought in, by the number of that text. */
-    this.answers = new Uint32Array(count);
+    /** What it answered, how that differs and its warnings, to be sought in, by the number of that text. */
+    this.answers = new Numbers(Uint32Array);
     this.answerTexts = new Texts();
-    this.answerTexts.numberOf("");
+    /** Why its event did nothing, by the number of that text. */
+    this.whys = new Numbers(Uint32Array);
+    this.whyTexts = new Texts();
+    for (const texts of [this.texts, this.answerTexts, this.whyTexts]) texts.numberOf("");
+    /** How many warnings it has. */
+    this.warned = new Numbers(Uint8Array);
+    /** When it was, in microseconds; NaN where it does not say. */
+    this.times = new Numbers(Float64Array);
+    this.hasTimes = false;
     /** The first of its steps, or the one at which it stands; and the last. */
-    this.firsts = new Uint32Array(count);
-    this.lasts = new Uint32Array(count);
-    /** How many were played. */
-    this.count = 0;
+    this.firsts = new Numbers(Uint32Array);
+    this.lasts = new Numbers(Uint32Array);
   }
 
-  /** Where the record of a line is that begins. */
-  begin(number, record) {
-    this.records[number - 1] = record;
+  /** How many were read whole. */
+  get count() {
+    return this.lasts.length;
   }
 
-  /** A line that was read whole. @param {Object} line its record */
-  add({ line: number, source, answer, differs }, mark, first, last) {
-    this.marks[number - 1] = MARK_KINDS.indexOf(mark) + 1;
-    this.sources[number - 1] = this.texts.numberOf(source ?? "");
-    this.answers[number - 1] = this.answerTexts.numberOf(answerText(answer, differs));
-    this.firsts[number - 1] = first;
-    this.lasts[number - 1] = last;
-    this.count += 1;
+  /** Where the record of the next line is, which begins. */
+  begin(record) {
+    this.records.push(record);
+  }
+
+  /** The line that began, which was read whole. @param {Object} line its record */
+  add({ source, answer = NO_TEXTS, differs, why, warnings = NO_TEXTS, time }, mark, first, last) {
+    this.marks.push(MARK_KINDS.indexOf(mark) + 1);
+    this.sources.push(this.texts.numberOf(source ?? ""));
+    this.answers.push(this.answerTexts.numberOf(answerText(answer, differs, why, warnings)));
+    this.whys.push(this.whyTexts.numberOf(why ?? ""));
+    this.warned.push(Math.min(warnings.length, MOST_WARNED));
+    this.times.push(time ?? NaN);
+    if (time !== undefined) this.hasTimes = true;
+    this.firsts.push(first);
+    this.lasts.push(last);
   }
 
   /** The place of a line's record. */
   record(number) {
-    return this.records[number - 1];
+    return this.records.at(number - 1);
   }
 
-  /** @returns {PlayedLine|null} null of a line that was not played, or of none */
+  /** @returns {PlayedLine|null} null of a line that was not read whole, or of none */
   at(number) {
-    return number > 0 && this.marks[number - 1] ? new PlayedLine(this, number) : null;
+    return number > 0 && number <= this.count ? new PlayedLine(this, number) : null;
   }
 }
 
-/** An answer as it is sought in. @param {string[]} answer @param {string} [differs] */
-function answerText(answer, differs) {
-  if (answer.length === 1 && !differs && answer[0].length <= MOST_OF_ANSWER) return answer[0];
-  return [...answer, differs ?? ""].join("\n").slice(0, MOST_OF_ANSWER);
+/** An answer as it is sought in, with what is told beside it. @param {string[]} answer @param {string} [differs] */
+function answerText(answer, differs, why, warnings) {
+  const isAlone = answer.length === 1 && !differs && !why && !warnings.length;
+  if (isAlone && answer[0].length <= MOST_OF_ANSWER) return answer[0];
+  return [...answer, why ?? "", ...warnings, differs ?? ""].join("\n").slice(0, MOST_OF_ANSWER);
 }
 
 /** A line that was played. What it answered is read again where it is shown. */
@@ -138,23 +164,33 @@ class PlayedLine {
   constructor(lines, number) {
     this.lines = lines;
     this.number = number;
-    this.first = lines.firsts[number - 1];
-    this.last = lines.lasts[number - 1];
+    this.first = lines.firsts.at(number - 1);
+    this.last = lines.lasts.at(number - 1);
   }
 
-  /** @returns {""|"refused"|"dropped"|"bad"|"differs"} */
+  /** @returns {""|"refused"|"dropped"|"bad"|"differs"|"warning"} */
   get mark() {
-    return MARK_KINDS[this.lines.marks[this.number - 1] - 1];
+    return MARK_KINDS[this.lines.marks.at(this.number - 1) - 1];
   }
 
   /** Where it comes from; empty where it does not say. */
   get source() {
-    return this.lines.texts.list[this.lines.sources[this.number - 1]];
+    return this.lines.texts.list[this.lines.sources.at(this.number - 1)];
   }
 
   /** @returns {string[]} */
   get answer() {
-    return this.record.answer;
+    return this.record.answer ?? NO_TEXTS;
+  }
+
+  /** Why its event did nothing; empty where it did something, or is none. */
+  get why() {
+    return this.lines.whyTexts.list[this.lines.whys.at(this.number - 1)];
+  }
+
+  /** What its driver seems to get wrong. @returns {string[]} */
+  get warnings() {
+    return this.lines.warned.at(this.number - 1) ? this.record.warnings : NO_TEXTS;
   }
 
   /** How its answer differs from the one that it expects; empty where it does not. */

@@ -1,152 +1,140 @@
-// The text of a record, by its lines. Of a long run the page keeps the text, and reads a line anew where it is shown.
+// The octets of a record: JSON Lines. The first line has the settings and the start. Behind it each line of the script
+// has one, and behind that each of its events. Of a long run the page keeps the octets, and reads a line with its events
+// anew where it is shown.
 
-/** Up to so many characters a text that is not written line by line is read at once. */
-const MOST_AT_ONCE = 2 ** 28;
-/** What stands in em_record's text before the records of lines, each of which has a line of the text. */
-const LINES_BEGIN = lettersOf('\n"lines":[\n');
-/** The line of the text behind them. */
-const LINES_END = lettersOf("],");
 const NEWLINE = 10;
 const DECODER = new TextDecoder();
-/** What stands before the number of a line's first event. */
-const ONLY_EVENT = ',"events":[{"event":';
-const FIELDS_BEFORE = ["format", "version", "settings", "script", "start", "lines"];
+/** What stands before the number of an event. */
+const EVENT_BEGINS = '\n{"event":';
+/** How a record of an older version begins, whose first line is no JSON. */
+const OLD_VERSION = /^\{"format":"bunjelav recording","version":(\d+),$/;
 
-/**
- * Where a record is read from: what stands before its lines, the records of lines, by their order there, and what
- * stands behind them. What is wrong with its text is said where all before that was read.
- * @typedef {Object} Source
- * @property {Object} record
- * @property {(take: (line: Object, index: number) => void) => void} each
- * @property {(index: number) => Object} line
- * @property {(index: number, field: string) => string|undefined} frame the digits of a frame of a line's only event
- * @property {(index: number) => string|null} only the text of a line's only event behind its number; null where it is to be read
- * @property {() => Object|undefined} end
- */
-
-/** A record that was read at once. @implements {Source} */
-class WholeSource {
-  /** @param {string} text */
-  constructor(text) {
-    const { record, fault } = parsed(text);
-    this.record = record;
-    this.fault = fault;
-  }
-
-  each(take) {
-    want(Array.isArray(this.record.lines), "it has no list of lines");
-    this.record.lines.forEach(take);
-    want(!this.fault, this.fault);
-  }
-
-  line(index) {
-    return this.record.lines[index];
-  }
-
-  frame(index, field) {
-    return this.line(index).events[0][field];
-  }
-
-  only() {
-    return null;
-  }
-
-  end() {
-    return this.record.end;
-  }
-}
-
-/** A record of which the octets are kept, and each line's record is read where it is wanted. @implements {Source} */
+/** Where a record is read from, part by part. The octets are kept, and each line's record is read where it is wanted. */
 class LineSource {
-  /** @param {Uint8Array[]} parts of its octets, each whole lines @param {Object} record what stands before its lines */
-  constructor(parts, record) {
-    /** The parts that are read, and those that are still to be. */
+  constructor() {
+    /** The octets that were read. */
     this.parts = [];
-    this.waiting = parts;
-    this.record = record;
     /** By part, which line's record is the first there. @type {number[]} */
     this.firsts = [];
     /** By part, where each record begins and the last one ends. @type {Uint32Array[]} */
     this.starts = [];
-    /** How many records there were, whether the last one is behind, and what stands there. */
+    /** How many lines' records there were, and what stands before and behind them. */
     this.count = 0;
-    this.isBehind = false;
-    this.tail = [];
-    /** The line of the script of the record that was read last. */
-    this.behind = 0;
+    this.head = null;
+    /** @type {Object|null} */
+    this.tail = null;
+    /** What came of a line whose events are not all there yet. */
+    this.rest = NO_OCTETS;
     this.newest = { index: -1, line: null };
     this.reader = new LineReader();
   }
 
-  /** The source of a record that is written line by line, as em_record writes it; null of another one. */
-  static of(parts) {
-    const begin = linesBegin(parts[0]);
-    if (begin < 0 || parts.slice(0, -1).some((part) => part[part.length - 1] !== NEWLINE)) return null;
-    try {
-      const record = isRecord(JSON.parse(`${textOf(parts[0].subarray(0, begin))}]}`));
-      return Object.keys(record).every((field) => FIELDS_BEFORE.includes(field))
-        ? new LineSource([parts[0].subarray(begin), ...parts.slice(1)], record) : null;
-    } catch {
-      return null;
-    }
-  }
-
-  each(take) {
-    for (const part of this.waiting) this.eachOf(part, take);
-    this.waiting = [];
-    want(this.isBehind, this.cut());
-  }
-
-  /** The lines of a further part. @param {Uint8Array} part */
-  eachOf(part, take) {
-    if (this.isBehind) {
-      this.tail.push(textOf(part));
+  /**
+   * Reads a further part.
+   * @param {Uint8Array} part
+   * @param {(head: Object) => void} begin
+   * @param {(line: Object, index: number) => void} take
+   * @param {boolean} isLast whether nothing comes behind it
+   */
+  take(part, begin, take, isLast = false) {
+    const octets = this.rest.length ? joined([this.rest, part]) : part;
+    this.rest = NO_OCTETS;
+    this.at = 0;
+    if (!this.head && !this.begins(octets, begin, isLast)) {
+      this.rest = octets;
       return;
     }
-    const starts = [0], index = this.parts.push(part) - 1;
-    this.firsts.push(this.count);
     // (a line that takes events back has those read again that stand before it)
+    const starts = [this.at], index = this.parts.push(octets) - 1;
+    this.firsts.push(this.count);
     this.starts.push(starts);
-    let at = 0;
-    while (at < part.length && !standsAt(part, at, LINES_END)) {
-      const line = this.given(part, at);
-      ({ at } = this);
-      starts.push(at);
+    while (this.at < octets.length) {
+      const from = this.at, line = this.given(octets, from, isLast);
+      if (!line) {
+        this.rest = octets.slice(from);
+        break;
+      }
+      if (this.tail) continue;
+      starts.push(this.at);
       take(line, this.count++);
     }
     this.starts[index] = Uint32Array.from(starts);
-    if (at === part.length) return;
-    this.isBehind = true;
-    this.tail.push(textOf(part.subarray(at + LINES_END.length)));
   }
 
-  /** The record of a line from a place on, as it is read first: what is written as em_record does is read at once. @private */
-  given(part, from) {
-    let line = this.reader.read(part, from);
-    this.at = this.reader.at;
-    if (!line) {
-      const end = part.indexOf(NEWLINE, from);
-      this.at = end < 0 ? part.length : end + 1;
-      line = this.read(part, from, this.at);
+  /** Reads the first line. @private @returns {boolean} false where it is not there yet */
+  begins(octets, begin, isLast) {
+    const end = octets.indexOf(NEWLINE);
+    if (end < 0 && !isLast) return false;
+    this.head = headOf(textOf(end < 0 ? octets : octets.subarray(0, end)));
+    this.at = end < 0 ? octets.length : end + 1;
+    begin(this.head);
+    return true;
+  }
+
+  /**
+   * The line from a place on with its events, behind which `at` is then: what is written as em_record does is read
+   * without JSON. Null where not all of it is there; of the record's end, which is kept, its object.
+   * @private
+   */
+  given(octets, from, isLast) {
+    want(this.tail === null, "it goes on behind its end");
+    const line = this.reader.read(octets, from);
+    if (line) {
+      this.at = this.reader.at;
+      return line;
     }
-    this.behind = isObject(line) && Number.isInteger(line.line) ? line.line : this.behind;
+    return this.parsed(octets, from, isLast);
+  }
+
+  /** The same by JSON. @private */
+  parsed(octets, from, isLast) {
+    this.at = from;
+    const line = this.object(octets, isLast);
+    if (!line) return null;
+    if (line.end !== undefined && line.line === undefined) {
+      this.tail = line;
+      return line;
+    }
+    const { events = 0 } = line;
+    if (!isNumber(events, MOST_EVENTS)) fail(`the number of events of ${lineName(line)} can’t be read`);
+    line.events = [];
+    for (let i = 0; i < events; i++) {
+      const event = this.object(octets, isLast);
+      if (!event) return null;
+      line.events.push(event);
+    }
     return line;
   }
 
-  /** The record between two places of a part. @private */
-  read(part, from, to) {
+  /** The object of the line at `at`, which goes behind it; null where it is not there yet. @private */
+  object(octets, isLast) {
+    const from = this.at, end = octets.indexOf(NEWLINE, from);
+    if (from >= octets.length || end < 0) {
+      if (!isLast) return null;
+      if (from >= octets.length) throw new Broken(this.cut());
+    }
+    this.at = end < 0 ? octets.length : end + 1;
+    let object;
     try {
-      const line = JSON.parse(recordText(part, from, to));
-      this.behind = isObject(line) && Number.isInteger(line.line) ? line.line : this.behind;
-      return line;
+      object = JSON.parse(textOf(octets.subarray(from, this.at)));
     } catch {
       throw new Broken(this.cut());
     }
+    want(isObject(object), `what stands behind line ${this.count} is no object`);
+    return object;
   }
 
   /** @private */
   cut() {
-    return cutOff(this.behind);
+    const where = this.count ? `behind line ${this.count}` : "before its first line";
+    return `it is cut off, or is not JSON, ${where} of its script`;
+  }
+
+  /** What stands behind the lines; undefined where nothing does. */
+  end(begin, take) {
+    if (this.rest.length) this.take(NO_OCTETS, begin, take, true);
+    want(this.head !== null, "it is empty");
+    return this.tail?.end;
   }
 
   /** In which part a record lies, and from where to where. @private @returns {[Uint8Array, number, number]} */
@@ -155,41 +143,27 @@ class LineSource {
     return [this.parts[at], starts[i], starts[i + 1]];
   }
 
+  /** The record of a line, with a list of its events. */
   line(index) {
-    if (this.newest.index !== index) this.newest = { index, line: this.read(...this.place(index)) };
+    if (this.newest.index !== index) {
+      const [line, ...events] = recordText(...this.place(index)).split("\n").map((text) => JSON.parse(text));
+      line.events = events;
+      this.newest = { index, line };
+    }
     return this.newest.line;
   }
 
-  /** The digits of a frame are found in the text, and the line is not read. */
+  /** The digits of a frame of a line's only event are found in the text, and the line is not read. */
   frame(index, field) {
     const text = recordText(...this.place(index)), mark = `"${field}":"`, from = text.indexOf(mark) + mark.length;
     return from < mark.length ? this.line(index).events[0][field] : text.slice(from, text.indexOf('"', from));
   }
 
-  /** (what a text has of its own has a mark before its quotation marks, so that this stands in none) */
+  /** The text of a line's only event behind its number; null where it is to be read. */
   only(index) {
-    const text = recordText(...this.place(index)), from = text.indexOf(ONLY_EVENT);
-    return from < 0 ? null : text.slice(text.indexOf(",", from + ONLY_EVENT.length));
+    const text = recordText(...this.place(index)), from = text.indexOf(EVENT_BEGINS);
+    return from < 0 ? null : text.slice(text.indexOf(",", from + EVENT_BEGINS.length));
   }
-
-  end() {
-    let behind;
-    try {
-      behind = JSON.parse(`{${this.tail.join("")}`);
-    } catch {
-      throw new Broken(this.cut());
-    }
-    want(!FIELDS_BEFORE.some((field) => Object.hasOwn(behind, field)), this.cut());
-    return behind.end;
-  }
-}
-
-/** Where the records of lines begin in octets; -1 where they do not. @param {Uint8Array} octets */
-function linesBegin(octets) {
-  for (let at = octets.indexOf(NEWLINE); at >= 0; at = octets.indexOf(NEWLINE, at + 1)) {
-    if (standsAt(octets, at, LINES_BEGIN)) return at + LINES_BEGIN.length;
-  }
-  return -1;
 }
 
 /** The text of octets. @param {Uint8Array} octets */
@@ -197,17 +171,9 @@ function textOf(octets) {
   return DECODER.decode(octets);
 }
 
-/** The text of a record that stands between two places, without the comma and the blanks behind it. */
+/** The text of a record that stands between two places, without the blanks behind it. */
 function recordText(part, from, to) {
-  const text = textOf(part.subarray(from, to));
-  return text.slice(0, endOfRecord(text, 0, text.length));
-}
-
-/** Where a record ends in a text, without the comma and the blanks behind it. */
-function endOfRecord(part, from, to) {
-  let end = to;
-  while (end > from && " \n\r".includes(part[end - 1])) end -= 1;
-  return part[end - 1] === "," ? end - 1 : end;
+  return textOf(part.subarray(from, to)).trimEnd();
 }
 
 /** In which part a record lies, by which is the first of each part. */
@@ -221,49 +187,16 @@ function partOf(firsts, index) {
   return low;
 }
 
-/** What is wrong with a text that was cut, behind a line or before the first one. @param {number} line */
-function cutOff(line) {
-  return `it is cut off, or is not JSON, ${line ? `behind line ${line}` : "before its first line"} of its script`;
-}
-
-/** The record that a text is, or the front of one that was cut off, with what is wrong then. */
-function parsed(text) {
+/** What a record's first line says. @param {string} text */
+function headOf(text) {
   want(text.trim() !== "", "it is empty");
-  const whole = text.replace(/^\uFEFF/, "");
+  const [, old] = OLD_VERSION.exec(text.trimEnd()) ?? [];
+  want(old === undefined, `its version is ${old}, and this page reads version ${VERSION}`);
   try {
-    return { record: isRecord(JSON.parse(whole)), fault: "" };
+    return isRecord(JSON.parse(text));
   } catch (fault) {
     if (fault instanceof Broken) throw fault;
-    const front = frontOf(whole);
-    want(front !== null, `it is cut off, or is not JSON (${shortened(visible(fault.message), 200)})`);
-    return { record: isRecord(front), fault: cutOff(front.lines[front.lines.length - 1]?.line) };
-  }
-}
-
-/** The front of a record that was cut off: up to the last whole line. Null where there is none. */
-function frontOf(text) {
-  const open = [];
-  let end = -1;
-  let inText = false;
-  for (let i = 0; i < text.length; i++) {
-    const mark = text[i];
-    if (inText) {
-      if (mark === "\\") i += 1;
-      else if (mark === '"') inText = false;
-    } else if (mark === '"') {
-      inText = true;
-    } else if (mark === "{" || mark === "[") {
-      open.push(mark);
-    } else if (mark === "}" || mark === "]") {
-      open.pop();
-      if (mark === "}" && open.join("") === "{[") end = i + 1;
-    }
-  }
-  try {
-    const front = JSON.parse(`${text.slice(0, end)}]}`);
-    return isObject(front) && Array.isArray(front.lines) ? front : null;
-  } catch {
-    return null;
+    throw new Broken(`it is cut off, or is not JSON (${shortened(visible(fault.message), 200)})`);
   }
 }
 

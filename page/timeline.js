@@ -7,7 +7,7 @@ const KINDS = {
   look: ["·", "look"], back: ["↶", "events taken back"], start: ["|", "start"],
 };
 const MARKS = { refused: ["×", "refused"], dropped: ["▾", "dropped"], bad: ["!", "bad line"],
-  differs: ["≠", "another answer than it expects"] };
+  differs: ["≠", "another answer than it expects"], warning: ["⚠\uFE0E", "warning"] };
 const LANE = 20;
 const MARK_ROOM = 12;
 const OVERVIEW_HEIGHT = 30;
@@ -112,11 +112,11 @@ class Timeline {
 
   /** @private */
   legend() {
-    const { run, two, run: { steps: { kinds, marks } } } = this.app;
+    const { run, two, run: { steps, steps: { kinds } } } = this.app;
     byId("kinds").replaceChildren(
       ...Object.entries(KINDS).filter(([kind]) => has(kinds, KIND_NUMBER.get(kind)) && kind !== "start")
         .map(([kind, [letter, words]]) => make("li", {}, make("span", { class: `tick kind-${kind}` }, letter), words)),
-      ...Object.entries(MARKS).filter(([mark]) => has(marks, MARK_KINDS.indexOf(mark))).map(([mark, [sign, words]]) =>
+      ...Object.entries(MARKS).filter(([mark]) => steps.marked(mark) > 0).map(([mark, [sign, words]]) =>
         make("li", {}, make("span", { class: `tick mark-${mark}` }, sign), this.markButton(mark, words))),
       ...(two ? [make("li", {}, this.countButton(UNLIKE, `not as in ${two.other(this.app.side)}`,
         countOf(run.unlike, 1)))] : []),
@@ -125,8 +125,7 @@ class Timeline {
 
   /** How many steps came out so; they are sought by it. @private */
   markButton(mark, words) {
-    const { values, length } = this.app.run.steps.marks;
-    return this.countButton(mark, words, countOf(values.subarray(0, length), MARK_KINDS.indexOf(mark)));
+    return this.countButton(mark, words, this.app.run.steps.marked(mark));
   }
 
   /** @private */

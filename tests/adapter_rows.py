@@ -1,5 +1,5 @@
-"""The worked rows of the second profile: tests/adapter/ROW.em, a script whose first line is the head, and behind each other line
-but comments stands the answer that it must have, worked out by hand from docs/device.md.
+"""The worked rows of the second profile: tests/adapter/ROW.em, a script whose first line is the head. Behind each other
+line but comments stands the answer that it must have, worked out by hand from docs/device.md.
 
 em_debug plays such a script with `--batch`, as tests/debugger does, and the second reading reads its lines here.
 """

@@ -54,7 +54,7 @@ WRONG = [
           [("RCTL_EN | RCTL_BAM", "RCTL_EN | RCTL_UPE | RCTL_BAM")]),
     Wrong("no broadcast", 2, "lab2.rs", 0, "BAM is clear", [("RCTL_EN | RCTL_BAM", "RCTL_EN")]),
     Wrong("no EN", 2, "lab2.py", 0, "RCTL.EN is clear", [("RCTL_EN | RCTL_BAM", "RCTL_BAM")]),
-    Wrong("one buffer for all", 2, "lab2.c", 6, "over buffer",
+    Wrong("one buffer for all", 2, "lab2.c", 6, "over another one's",
           [("return BUFFERS + SIZE * index", "return BUFFERS + 0 * index")]),
     Wrong("a loop for DD", 2, "lab2.py", 2, "the adapter acts only behind an access of a register", [
         ("        if not self.nic.memory[at + STATUS_AT] & RX_DD:\n"

@@ -181,12 +181,13 @@ def xv6(s: Script) -> None:
         s.blame(f"w {RDLEN:X} {16 * 9:X}")
     else:
         s.write(RDLEN, 16 * COUNT)
-        if s.has("tail-is-count"):
-            s.follow()
     address_filter(s)
     s.write(TCTL, TX_CONTROL)
     s.write(TIPG, 0x60200A)
     s.write(RCTL, EN | BAM | SECRC)
+    if s.has("tail-is-count"):
+        # from here on the receiver goes by the ring
+        s.follow()
     s.write(IMS, RXT0)
     s.do("link up", "wire")
     for turn in range(COUNT + 3):
@@ -250,12 +251,15 @@ def ixy_receive(s: Script, first: int, count: int) -> None:
         s.write(RDT, last)
 
 
-def ixy_transmit(s: Script, first: int, count: int, number: int) -> None:
+def ixy_transmit(s: Script, first: int, count: int, number: int, waits: int | None = None) -> None:
+    """Packets are given to be sent; a driver that is not to look for room goes over the one that waits longest."""
     for at in (it % COUNT for it in range(first, first + count)):
         s.poke(TX_BUFFERS + TX_BUFFER * at, packet(number + at))
+        if at == waits:
+            s.follow()
         s.poke(TX_RING + 16 * at, descriptor(TX_BUFFERS + TX_BUFFER * at, 60, EOP | IFCS | RS))
     after = (first + count) % COUNT
-    if s.has("tail-past-head") and number:
+    if waits is not None:
         s.blame(f"w {TDT:X} {after:X}")
     else:
         s.write(TDT, after)
@@ -274,7 +278,7 @@ def ixy(s: Script, batch: int = 3) -> None:
         if s.has("tail-past-head") and turn == 1:
             # six wait already where only one place is free
             ixy_transmit(s, first, 6, 0)
-            ixy_transmit(s, first + 6, 3, 10)
+            ixy_transmit(s, first + 6, 3, 10, waits=first)
             s.sends(1)
             return
         ixy_transmit(s, first, batch, 10 * turn + 1)
@@ -437,6 +441,9 @@ def bsd_up(s: Script) -> None:
         s.write(register, value)
     for at in range(COUNT):
         bsd_init_receive(s, at, is_first=True)
+        if s.has("base-in-the-high-half") and at == 1:
+            # the first descriptor that the adapter is given, which is nowhere
+            s.follow()
     s.write(TCTL, TX_CONTROL)
     s.write(IMS, RXT0 | TXDW | LSC)
     if s.has("broadcast-not-accepted"):

@@ -1,6 +1,5 @@
 """`./em_debug --addr2line` and `./em_page --addr2line`: program counters of a script become functions and lines. A program
 of our own, in C, writes a script whose counters are its own, at lines that are known here."""
-import json
 import os
 import pathlib
 import pty
@@ -13,6 +12,7 @@ import subprocess
 import tempfile
 import time
 
+import recorded
 from page_tools import program as player
 from preload import not_run
 from tally import TOP, Tally
@@ -96,7 +96,7 @@ REFUSED_PAGES = (
      "ends at 10000000000 at most"),
 )
 # the elements with the record of a page, and its title
-RECORD = re.compile(rb'<script class="record" type="application/json">(.*?)</script>', re.S)
+RECORD = re.compile(rb'<script class="record" type="application/jsonl">(.*?)</script>', re.S)
 TITLE = re.compile(rb"<title>(.*?)</title>", re.S)
 
 
@@ -241,7 +241,7 @@ def pages(tally: Tally, room: Room) -> None:
         ran = room.run(*words, typed=typed, by="em_page")
         ended(tally, room, " ".join(words), ran, 1, None, f"em_record: {name}: ".encode() + said)
         record, title = b"".join(RECORD.findall(ran.stdout)), TITLE.search(ran.stdout)
-        told = [line["source"] for line in json.loads(record)["lines"] if "source" in line] if record else []
+        told = [line["source"] for line in recorded.parsed(record)["lines"] if "source" in line] if record else []
         # (the number that stands behind another word is no counter)
         wanted[3] = run_of.decode().splitlines()[6].partition("@ ")[2]
         faults = [] if told == wanted else [f"its sources are {told}, and not {wanted}"]

@@ -1,15 +1,15 @@
 """Search: what a page finds by its terms, against a plain reading of the record; next, previous, and how they are counted."""
-import json
 import random
 from pathlib import Path
 
+import recorded
 from page_frames import HEAD, UDP, ARP, ethernet, ipv4
 from page_links import LINK, opened_at
 from page_tools import TOP, page_of, ready, record_of
 from page_use import EVENTS_OF_A_ROUND, many_events, spent
 from tally import Tally
 
-MARKS = ["refused", "dropped", "bad", "differs"]
+MARKS = ["refused", "dropped", "bad", "differs", "warning"]
 SEARCH_MILLISECONDS = 100
 # seeks, and then goes to what was found, one after another from the start: where it led, and how it was counted
 SEEK = """
@@ -45,7 +45,8 @@ def steps_of_record(record: dict) -> list[Step]:
     steps, standing = [Step("start", {"line": 0}, None, "")], []
     for line in record["lines"]:
         own, events = len(steps), line["events"]
-        mark = "bad" if line.get("bad") else "refused" if "refused" in line else "differs" if line.get("differs") else ""
+        mark = "bad" if line.get("bad") else "refused" if "refused" in line else "differs" if line.get("differs") \
+            else "warning" if line.get("warnings") else ""
         if "back" in line:
             for _ in range(line["back"]):
                 standing.pop().gone = True
@@ -77,8 +78,12 @@ def holds(kind: str, word: str, step: Step, record: dict, is_last: bool) -> bool
     if kind == "line":
         first, _, last = word.partition("-")
         return int(first) <= step.line["line"] <= int(last or first)
+    if kind == "is" and word == "warning":
+        return is_last and bool(step.line.get("warnings"))
     if kind == "is":
         return step.gone if word == "gone" else step.mark == word
+    if kind == "reason":
+        return is_last and word.lower() in step.line.get("why", "").lower()
     if kind == "kind":
         return step.kind == word
     if kind == "source":
@@ -92,7 +97,8 @@ def holds(kind: str, word: str, step: Step, record: dict, is_last: bool) -> bool
 def texts_of(line: dict, record: dict) -> list[str]:
     number = line["line"]
     text = record["script"][number - 1] if number else ""
-    return [text, "\n".join(line.get("answer", [])), line.get("differs", ""), line.get("source", "")]
+    told = [line.get("why", ""), *line.get("warnings", []), line.get("differs", ""), line.get("source", "")]
+    return [text, "\n".join(line.get("answer", [])), *told]
 
 
 def expected(record: dict, terms: list[tuple[str, str]]) -> list[tuple[int, int]]:
@@ -141,7 +147,7 @@ def terms_find(tally: Tally, browser, room: Path) -> None:
     for example in ("broken-ring.em", "driver.em", "why-dropped.em", "broken/ring.em"):
         r = random.Random(example)
         text = record_of((TOP / "examples" / example).read_bytes())
-        record, page = json.loads(text), room / "find.html"
+        record, page = recorded.parsed(text), room / "find.html"
         page.write_bytes(page_of(text))
         browser.open(page)
         terms = some_terms(r, record)

@@ -8,6 +8,7 @@ import subprocess
 import unicodedata
 from pathlib import Path
 
+import recorded
 from page_tools import EXAMPLES, Frame, page_of, ready, record_of
 from tally import TOP, Tally
 
@@ -58,18 +59,18 @@ return { unseen: [...new Set(marks)], broken: broken.hidden ? '' : broken.textCo
 
 
 def steps_before(cut: bytes) -> int:
-    """How many steps the whole lines make that stand in a record that was cut."""
-    text, count = cut.decode(errors="replace"), 0
-    script = json.loads(f"{text.partition(chr(34) + 'start' + chr(34))[0].rstrip().rstrip(',')}}}")["script"]
-    at, decoder = text.index("[", text.index('"lines"')) + 1, json.JSONDecoder()
-    while True:
-        try:
-            line, at = decoder.raw_decode(text, at + len(text[at:]) - len(text[at:].lstrip(", \n")))
-        except json.JSONDecodeError:
-            return count
-        words = script[line["line"] - 1].split()
-        count += ("back" in line) + len(line["events"])
-        count += "back" not in line and not line["events"] and bool(words) and not words[0].startswith("#")
+    """How many steps the whole lines make that stand in a record that was cut: a line is whole with all its events."""
+    objects = [json.loads(text) for text in cut.split(b"\n")[1:-1]]
+    count, at = 0, 0
+    while at < len(objects) and "line" in objects[at]:
+        line, events = objects[at], objects[at].get("events", 0)
+        at += 1 + events
+        if at > len(objects):
+            break
+        words = line.get("text", "").split()
+        count += ("back" in line) + events
+        count += "back" not in line and not events and bool(words) and not words[0].startswith("#")
+    return count
 
 
 def faults_of(shown: dict, console: list[str], must_be_broken: bool) -> list[str]:
@@ -91,7 +92,7 @@ def faults_of(shown: dict, console: list[str], must_be_broken: bool) -> list[str
 def changed_octets(r: random.Random, record: bytes) -> bytes:
     """One to three octets changed, put in or left out, mostly in the lines."""
     made = bytearray(record)
-    begin = made.find(b'"lines"')
+    begin = made.find(b'{"line":')
     for _ in range(r.randint(1, 3)):
         at = r.randrange(begin, len(made)) if r.random() < 0.8 else r.randrange(len(made))
         kind = r.random()
@@ -112,8 +113,8 @@ def parts_of(value, path=()) -> list[tuple]:
 
 def changed_parts(r: random.Random, record: bytes) -> bytes:
     """One part of the record made something else, left out or doubled."""
-    made = json.loads(record)
-    paths = [path for path in parts_of(made) if path and path[:2] != ("start", "registers")] or [("version",)]
+    made = [json.loads(text) for text in record.splitlines()]
+    paths = [path for path in parts_of(made) if path and path[1:3] != ("start", "registers")]
     *way, last = r.choice(paths)
     holder = made
     for key in way:
@@ -127,7 +128,8 @@ def changed_parts(r: random.Random, record: bytes) -> bytes:
         holder.insert(last, holder[last])
     else:
         holder[r.choice(["__proto__", "more", "line", "back", "frames"])] = holder[last]
-    return json.dumps(made).encode()
+    # (a line of its own may be anything)
+    return "".join(f"{json.dumps(one)}\n" for one in made).encode()
 
 
 def try_records(tally: Tally, browser, room: Path, named: list[tuple[str, bytes, bool]]) -> None:
@@ -137,7 +139,7 @@ def try_records(tally: Tally, browser, room: Path, named: list[tuple[str, bytes,
         browser.open(page)
         shown = browser.run(SHOWS)
         faults = faults_of(shown, browser.told(), must_be_broken)
-        if "cut after" in name and b'"lines"' in record and b'{"line"' in record:
+        if "cut after" in name and b'{"line":' in record:
             steps = steps_before(record)
             faults += [] if shown["steps"] == steps else [f"it shows {shown['steps']} steps, and not {steps}"]
         tally.check(name, faults)
@@ -162,10 +164,16 @@ def hostile_records(seed: int = 82540) -> list[tuple[str, bytes, bool]]:
     made += [
         ("a register that turns the direction of writing",
          record.replace(b'"registers":{"CTRL"', '"registers":{"\u202eCTRL \u00ad\U000e0041"'.encode(), 1), True),
-        ("another version", record.replace(b'"version":2', b'"version":1'), True),
+        ("another version", record.replace(b'"version":3', b'"version":4'), True),
+        ("version 2", b'{"format":"bunjelav recording","version":2,\n"settings":{"base":0},\n"script":[],\n', True),
+        ("something behind the end", record + record.splitlines()[-1], True),
+        ("more events than follow", record.replace(b'"events":1}', b'"events":4294967295}', 1), True),
+        ("a line left out", re.sub(rb'\{"line":5,.*\n', b"", record, count=1), True),
+        ("blanks about it", b" " + record.replace(b'{"line":', b'\t{ "line" : ').replace(b"\n", b" \r\n"), False),
         ("another format", record.replace(b"bunjelav recording", b"a recording"), True),
         ("no record", b"", True), ("no object", b"[]", True), ("null", b"null", True), ("text", b"not JSON", True),
-        ("no end", re.sub(rb',\s*"end":\{[^}]*\}', b"", record), True),
+        ("no end", re.sub(rb'\{"end":\{[^}]*\}\}\n', b"", record), True),
+        ("no newline at its end", record.rstrip(), False),
         ("HTML", b"</script><script>window.ran = 1</script>", True), ("a mark in front", b"\xef\xbb\xbf" + record,
             False),
     ]
@@ -207,7 +215,7 @@ def hostile_scripts(tally: Tally, browser, room: Path) -> None:
         ask();
       });
     """, len(HOSTILE_LINES))
-    wanted = {str(number): visible(text) for number, text in enumerate(json.loads(record)["script"], 1)}
+    wanted = {str(number): visible(text) for number, text in enumerate(recorded.parsed(record)["script"], 1)}
     faults = [f"line {number} is shown as {text[:80]!r}, and not {wanted[number][:80]!r}"
               for number, text in texts if text != wanted[number]]
     tally.check("the texts of a hostile script", faults + ([] if len(texts) == len(wanted)
@@ -221,8 +229,8 @@ def hostile_scripts(tally: Tally, browser, room: Path) -> None:
 
 
 def packed(tally: Tally, browser, room: Path) -> None:
-    """A long record is packed; where its letters are cut or others, or it is not written line by line, the page says what is
-    wrong, or shows it."""
+    """A long record is packed; where its letters are cut or others, or it is written in another way, the page says what
+    is wrong, or shows it."""
     script = "".join(f"poke {4096 + 64 * i % 32768:X} {i % 256:02X}{'A5' * 59}{i % 251:02X}\n"
         for i in range(PACKED_LINES))
     record = record_of(script.encode())
@@ -235,14 +243,14 @@ def packed(tally: Tally, browser, room: Path) -> None:
     named = [("whole", whole, False), ("cut", whole[: begin + (end - begin) // 2] + whole[end:], True),
         ("without octets", whole[:begin] + whole[end:], True),
              ("with other octets", other, True), ("cut record", page_of(record[: len(record) * 9 // 10]), True),
-             ("not line by line", page_of(json.dumps(json.loads(record)).encode()), False)]
+             ("with blanks", page_of(record.replace(b'{"line":', b'{ "line": ')), False)]
     for name, octets, must_be_broken in named:
         page.write_bytes(octets)
         browser.open(page)
         ready(browser)
         shown = browser.run(SHOWS)
         faults = faults_of(shown, browser.told(), must_be_broken)
-        steps = {"whole": PACKED_LINES, "not line by line": PACKED_LINES}.get(name)
+        steps = {"whole": PACKED_LINES, "with blanks": PACKED_LINES}.get(name)
         faults += [] if steps is None or shown["steps"] == steps else [f"it shows {shown['steps']} steps"]
         tally.check(f"packed, {name}", faults)
     (room / "pipe.json").write_bytes(record_of(b"link up\n"))

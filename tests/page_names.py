@@ -3,7 +3,7 @@
 
     tests/page_names.py > page/names.js
 
-`of_code()` reads crates/em_names/src/bits.rt, and `of_docs()` the table of docs/names.md.
+`of_code()` reads crates/em_names/src/bits.rt, and `of_docs()` the table of docs/library.md.
 tests/page compares the two with the file.
 """
 import json
@@ -35,8 +35,8 @@ def of_code() -> dict[str, list[list]]:
 
 
 def of_docs() -> dict[str, list[list]]:
-    """The same out of docs/names.md, without the forms, each register's from the lowest bit on."""
-    text = (TOP / "docs" / "names.md").read_text().partition("| Register | Bits | Fields |")[2].partition("\n\n")[0]
+    """The same out of docs/library.md, without the forms, each register's from the lowest bit on."""
+    text = (TOP / "docs" / "library.md").read_text().partition("| Register | Bits | Fields |")[2].partition("\n\n")[0]
     found = {}
     for line in text.splitlines()[2:]:
         names, bits, fields = [cell.strip() for cell in line.strip().strip("|").split("|")]

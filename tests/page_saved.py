@@ -1,10 +1,10 @@
 """What is saved from the page: the capture of the frames that were sent, octet for octet as em_debug's `pcap` writes it, and
 the script."""
-import json
 import random
 import time
 from pathlib import Path
 
+import recorded
 from page_find import steps_of_record
 from page_states import GO, by_debugger
 from page_tools import TOP, page_of, record_of, scripts_at_random
@@ -63,7 +63,7 @@ def captures(tally: Tally, browser, room: Path) -> None:
         record = record_of(script.encode("latin-1"))
         page.write_bytes(page_of(record))
         browser.open(page)
-        at_event = {step.event["event"]: at for at, step in enumerate(steps_of_record(json.loads(record)))
+        at_event = {step.event["event"]: at for at, step in enumerate(steps_of_record(recorded.parsed(record)))
                     if step.event and not step.gone}
         numbers = [max(at_event, default=0), *r.sample(sorted(at_event), min(PLACES, len(at_event)))]
         for number in numbers:
@@ -88,7 +88,7 @@ def scripts(tally: Tally, browser, room: Path) -> None:
         page.write_bytes(page_of(record))
         browser.open(page)
         octets = saved(browser, folder, "save-script")
-        wanted = "".join(f"{line}\n" for line in json.loads(record)["script"]).encode()
+        wanted = "".join(f"{line}\n" for line in recorded.parsed(record)["script"]).encode()
         tally.check("the script", [] if octets == wanted == script else [f"it is {octets[:200]!r}"])
     for title, name in (("ring.em: a run of the 82540EM", "ring.em"),
         ("../a b.json: a run of the 82540EM", "__a_b.em"), ("A run", "run.em")):

@@ -1,6 +1,5 @@
 """What a page shows of where lines come from: a run that was kept, by mouse and by keys, at widths, in both schemes;
 and sources that are made to break it."""
-import json
 import re
 from pathlib import Path
 
@@ -141,11 +140,11 @@ def by_keys(tally: Tally, browser, wanted: dict[str, list[int]]) -> None:
 def beside(tally: Tally, browser, room: Path) -> None:
     """Beside an event stands where its line comes from; without any source there is neither column nor list."""
     record = recorded.record("link up\nr 8\n")
-    shown = opened(browser, room, json.dumps(record).encode())
+    shown = opened(browser, room, recorded.written(record))
     is_so = shown["hidden"] and shown["columns"] == [None, None]
     tally.check("no sources", [] if is_so else [f"{shown}"])
     record["lines"][0]["source"] = "driver.c:12"
-    opened(browser, room, json.dumps(record).encode())
+    opened(browser, room, recorded.written(record))
     seen = []
     for step in range(3):
         browser.run(STEP, step)
@@ -180,7 +179,7 @@ def hostile(tally: Tally, browser, room: Path) -> None:
     record = recorded.record("r 8\n" * len(HOSTILE))
     for line, source in zip(record["lines"], HOSTILE):
         line["source"] = source
-    shown = opened(browser, room, json.dumps(record).replace("<", "\\u003c").encode())
+    shown = opened(browser, room, recorded.written(record).replace(b"<", b"\\u003c"))
     faults = [] if shown["ran"] is None and shown["scripts"] == 2 and not shown["broken"] else [f"{shown}"]
     browser.run("for (const one of document.querySelectorAll('.source-line')) one.click();")
     short = {visible(source) for source in HOSTILE if len(source) <= 300}

@@ -1,10 +1,10 @@
 """The timeline along times: each step lies at its time, by a plain reading of the script; where there are no times nothing is
 other than before."""
-import json
 import re
 from math import floor
 from pathlib import Path
 
+import recorded
 from page_find import steps_of_record
 from page_tools import TOP, page_of, record_of
 from page_zoom import VIEW, pointed
@@ -92,7 +92,7 @@ def lies(tally: Tally, browser, room: Path) -> None:
     page = room / "times.html"
     page.write_bytes(page_of(record))
     browser.open(page)
-    steps = steps_of_record(json.loads(record))
+    steps = steps_of_record(recorded.parsed(record))
     times = times_of(TIMED, [step.line["line"] for step in steps])
     known = next(time for time in times if time is not None)
     said = browser.run(SAID, list(range(len(steps))))

@@ -1,9 +1,9 @@
 """Two runs in one page: where they part, what belongs together, and what differs, against a plain reading of both records."""
-import json
 import random
 import subprocess
 from pathlib import Path
 
+import recorded
 from page_tools import TOP, page_of, ready, record_of
 from page_use import many_events
 from random_lines import driven, over_rings
@@ -183,7 +183,7 @@ def partings(tally: Tally, browser, room: Path) -> None:
     comparison of both machines, and what differs behind it is told."""
     for name, *scripts in pairs():
         records = [record_of("".join(f"{line}\n" for line in script).encode("latin-1")) for script in scripts]
-        both = [happenings_of(json.loads(record)) for record in records]
+        both = [happenings_of(recorded.parsed(record)) for record in records]
         browser.open(page_of_two(room, records))
         ready(browser)
         shown, wanted = browser.run(PANEL), first_parting(*both)
@@ -295,14 +295,14 @@ def edits(tally: Tally, browser, room: Path) -> None:
 def machines(tally: Tally, browser, room: Path) -> None:
     """Machines that differ at the start part there; links lead into either run; keys go to differences; a record that is
     broken is named, and the other one is shown."""
-    one = json.loads(record_of(b"link up\nr 8\n"))
-    other = json.loads(json.dumps(one))
+    one = recorded.parsed(record_of(b"link up\nr 8\n"))
+    other = recorded.parsed(recorded.written(one))
     other["settings"]["mac"] = "020304050607"
     other["start"]["registers"]["RAL0"] = 0x05040302
     for line in other["lines"]:
         for event in line["events"]:
             event["registers"] = [part for part in event.get("registers", []) if part[0] != "RAL0"]
-    page = page_of_two(room, [json.dumps(one).encode(), json.dumps(other).encode()])
+    page = page_of_two(room, [recorded.written(one), recorded.written(other)])
     browser.open(page)
     shown = browser.run(PANEL)
     rows = {row[0]: row for row in shown["rows"]}

@@ -92,7 +92,7 @@ def names(tally: Tally) -> None:
     tally.check("page/names.js", [] if (TOP / "page" / "names.js").read_text() == names_text()
                 else ["it is not what tests/page_names.py writes"])
     code = {name: [row[:3] for row in rows] for name, rows in of_code().items()}
-    tally.check("docs/names.md", [] if code == of_docs() else ["crates/em_names has other bits than it"])
+    tally.check("docs/library.md", [] if code == of_docs() else ["crates/em_names has other bits than it"])
 
 
 def keyboard(tally: Tally, browser, room: Path) -> None:

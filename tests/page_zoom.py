@@ -1,9 +1,9 @@
 """The timeline: it is zoomed and drawn along without steps between, and in the picture of a long run no mark and no kind is
 lost."""
-import json
 from math import exp, floor
 from pathlib import Path
 
+import recorded
 from page_find import steps_of_record
 from page_tools import page_of, record_of
 from page_use import GO, many_events
@@ -31,7 +31,8 @@ for (const y of arguments[0]) {
 return [width, height, rows];
 """
 # (as page/density.js and page/steps.js have them)
-MARKS, MARK_ROW, KIND_ROW = ["refused", "bad", "differs", "dropped"], 4, 6
+MARKS, MARK_ROW, KIND_ROW = ["refused", "bad", "differs", "dropped", "warning"], 4, 6
+WARNING = "tail-past-ring: RDT 9 is past the ring of 8, write an index below that"
 KINDS = ["read", "write", "poke", "arrive", "rx", "tx", "link", "driver", "look", "back"]
 ROUNDS = 1200
 
@@ -66,7 +67,7 @@ def zooms(tally: Tally, browser, room: Path) -> None:
         there = first + count / 4
         pointed(browser, "mouseWheel", x, y, deltaX=0, deltaY=turned)
         before, (first, count, *_) = count, browser.run(VIEW, "")
-        steps = len(steps_of_record(json.loads(record_of(long_run())))) if turned == 120 else steps
+        steps = len(steps_of_record(recorded.parsed(record_of(long_run())))) if turned == 120 else steps
         wanted = min(steps, before * exp(0.0025 * turned))
         is_there = near(first + count / 4, there, 0.002) or first == 0 or near(first + count, steps)
         tally.check(f"the wheel turned by {turned}", [] if near(count, wanted) and is_there
@@ -119,18 +120,41 @@ def drags(tally: Tally, browser, room: Path) -> None:
     tally.check("the key 0", [] if whole[0] == 0 and whole[1] > 6000 else [f"{whole[1]} steps are shown"])
 
 
+def warned_run() -> dict:
+    """The long run, in which some lines have a warning: one of them differs too, and one has another mark."""
+    made = recorded.parsed(record_of(long_run()))
+    lines = made["lines"]
+    other = next(line for line in lines[7:] if line.get("kind") == "write" and len(line["events"]) == 1)
+    other |= {"expected": "1", "differs": "differs: 1 wanted"}
+    marked = [other, next(line for line in lines if "refused" in line)]
+    for line in [*marked, *lines[100 :: len(lines) // 3]]:
+        line["warnings"] = [WARNING]
+    return made
+
+
+def marked_so(steps: list, mark: str) -> list[int]:
+    """The steps that came out so. A warning is the last step's of its line."""
+    last = {step.line["line"]: at for at, step in enumerate(steps)}
+    return [at for at, step in enumerate(steps) if step.mark == mark
+            or mark == "warning" and step.line.get("warnings") and last[step.line["line"]] == at]
+
+
 def nothing_lost(tally: Tally, browser, room: Path) -> None:
     """In the picture of the whole run each mark stands in its column, and each kind where there are steps of it."""
-    steps = steps_of_record(json.loads(record_of(long_run())))
+    record, page = warned_run(), room / "marks.html"
+    page.write_bytes(page_of(recorded.written(record)))
+    browser.open(page)
+    browser.press("0")
+    steps = steps_of_record(record)
     browser.run(GO, 0)
     kinds = [kind for kind in KINDS if any(step.kind == kind for step in steps)]
-    marks = [mark for mark in MARKS if any(step.mark == mark for step in steps)]
+    marks = [mark for mark in MARKS if marked_so(steps, mark)]
     tops = [MARK_ROW * row + 1 for row in range(len(marks))]
     tops += [MARK_ROW * len(marks) + 2 + KIND_ROW * row + 2 for row in range(len(kinds))]
     width, height, rows = browser.run(ROWS, tops)
     of_frame = {0, 1, width - 1}
     for name, there in zip(marks, rows):
-        columns = {min(floor(at * width / len(steps)), width - 2) for at, step in enumerate(steps) if step.mark == name}
+        columns = {min(floor(at * width / len(steps)), width - 2) for at in marked_so(steps, name)}
         wanted = {x + more for x in columns for more in (0, 1)}
         tally.check(f"marks of {name}", [] if set(there) - of_frame == wanted - of_frame
             else [f"in {there}, and not {sorted(wanted)}"])

@@ -127,9 +127,24 @@ def walk(script: str, **settings) -> tuple[Event, list[Played]]:
     return root, played
 
 
-def told(line: Played) -> dict:
-    """A line as the record has it."""
-    made = {"line": line.number}
+# What a line's record has, in its order.
+OF_LINE = ["line", "text", "kind", "answer", "refused", "bad", "why", "warnings", "expected", "differs", "source",
+           "time", "back", "events"]
+HEAD = ["format", "version", "settings", "start"]
+
+
+def time_of(line: str) -> int | None:
+    """The time in microseconds that a line's comment is."""
+    is_comment = line.lstrip(" \t\r").startswith("#")
+    found = re.search(r"(?:^|[ \t\r])#[ \t\r]*(\d+)\.(\d{6})[ \t\r]*$", line)
+    if not found or int(found[1]) >= 2**32 or is_comment and "#" in line.lstrip(" \t\r")[1:]:
+        return None
+    return int(found[1]) * 1_000_000 + int(found[2])
+
+
+def told(line: Played, text: str) -> dict:
+    """A line as the record has it, with a list of its events."""
+    made = {"line": line.number} | ({"text": text} if text else {})
     if line.words and line.said is not None and not line.words[0].startswith("#"):
         made["kind"] = KINDS.get(line.words[0], line.words[0])
     made["answer"] = [f"bad line {line.number}"] if line.said is None else line.said
@@ -137,25 +152,56 @@ def told(line: Played) -> dict:
         made["bad"] = True
     elif line.said and line.said[0].startswith(("refused", "stopped")):
         made["refused"] = line.said[0].split()[-1]
+    if (time := time_of(text)) is not None:
+        made["time"] = time
     if line.back is not None:
         made["back"] = line.back
     return made | {"events": [effect(one.number, one.was, one.before.state, one.state) for one in line.events]}
 
 
 def record(script: str, memory: int = 65536, budget: int = 1_048_576, mac: str = "525400123456") -> dict:
-    """The record of a script, by one character for each octet."""
+    """The record of a script, by one character for each octet: as `parsed` gives it."""
     settings = {"memory": memory, "budget": budget, "mac": mac}
     root, played = walk(script, **settings)
     settings = {"base": 0} | settings
     lines = script.split("\n")
     texts = [line.encode("latin-1").decode(errors="replace") for line in (lines if lines[-1] else lines[:-1])]
     return {
-        "format": "bunjelav recording", "version": 2, "settings": settings, "script": texts,
-        "start": {"registers": shown(root.state)}, "lines": [told(line) for line in played],
-        "end": {"events": played[-1].newest.depth if played else 0, "lines": len(played)},
+        "format": "bunjelav recording", "version": 3, "settings": settings, "start": {"registers": shown(root.state)},
+        "lines": [told(line, text) for line, text in zip(played, texts)],
+        "end": {"events": played[-1].newest.depth if played else 0, "lines": len(played)}, "script": texts,
     }
 
 
 def recording(script: bytes, **settings) -> bytes:
-    """The same as JSON."""
-    return json.dumps(record(script.decode("latin-1"), **settings), ensure_ascii=False, separators=(",", ":")).encode()
+    """The same as its octets."""
+    return written(record(script.decode("latin-1"), **settings))
+
+
+# ---- JSON Lines: the first object is the head; behind it stands one for each line, and behind that one for each event
+
+
+def written(made: dict) -> bytes:
+    """A record as its octets."""
+    objects = [{key: made[key] for key in HEAD if key in made}]
+    for line in made["lines"]:
+        events = line["events"]
+        kept = line | {"events": len(events)}
+        empty = {key for key in ("answer", "events") if not kept.get(key)}
+        objects += [{key: kept[key] for key in [*OF_LINE, *line] if key in kept and key not in empty}, *events]
+    objects += [{"end": made["end"]}] if "end" in made else []
+    return "".join(f"{json.dumps(one, ensure_ascii=False, separators=(',', ':'))}\n" for one in objects).encode()
+
+
+def parsed(octets: bytes) -> dict:
+    """A record of its octets: its lines have lists of answers and of events, and `script` has their texts."""
+    objects = [json.loads(text) for text in octets.decode().split("\n") if text]
+    made, at, lines = objects[0], 1, []
+    while at < len(objects) and "line" in objects[at]:
+        count = objects[at].get("events", 0)
+        lines.append({"answer": []} | objects[at] | {"events": objects[at + 1 : at + 1 + count]})
+        at += 1 + count
+    ended = objects[at] if at < len(objects) else {}
+    if objects[at + 1 :] or any("event" not in event for line in lines for event in line["events"]):
+        raise ValueError("the record's lines are not of its form")
+    return made | {"lines": lines} | ended | {"script": [line.get("text", "") for line in lines]}

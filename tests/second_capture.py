@@ -1,4 +1,4 @@
-"""The formats of captures once more, as docs/pcap.md has them: a plain program, written apart from the code."""
+"""The formats of captures once more, as docs/traces.md has them: a plain program, written apart from the code."""
 import struct
 
 MAGIC, VERSION, CUT = "the magic number is not known", "the version is not known", "the file is cut short"

@@ -1,6 +1,6 @@
 """A second reading of em_bench's lines as they may be typed into em_debug, or stand in a script for it and em_record: with
 names of registers and bits, and with an expected answer, a source and a comment behind them. It is read from
-docs/debugger-language.md and docs/language.md, and not from the code.
+docs/language.md and docs/language.md, and not from the code.
 """
 import re
 from functools import cache
@@ -74,8 +74,8 @@ def agrees(is_read: bool, expected: str, answer: str) -> bool:
 
 @cache
 def bits() -> dict[str, dict[str, int]]:
-    """By the name of a register, of an array without the index: its bits."""
-    return {reg: {name: 1 << low for name, high, low in rows if high == low}
+    """By the name of a register, of an array without the index: its bits, in upper case."""
+    return {reg: {name.upper(): 1 << low for name, high, low in rows if high == low}
             for reg, rows in page_names.of_docs().items()}
 
 

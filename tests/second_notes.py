@@ -1,5 +1,5 @@
 """What an event was, as a record has it, by a second reading: the fields of its kind in their order, and its text. Names and
-bits of registers are those of docs/names.md."""
+bits of registers are those of docs/library.md."""
 from page_names import of_docs, stem
 from second_reading import IN_WORDS, NAMES_BESIDES
 
@@ -18,7 +18,7 @@ BUFFERS = ((2048, 1024, 512, 256), (2048, 16384, 8192, 4096))
 
 
 def field(name: str, high: int, low: int, value: int, register: str) -> str:
-    """A bit or a field of a register that holds a value, as the table in docs/names.md has it shown."""
+    """A bit or a field of a register that holds a value, as the table in docs/library.md has it shown."""
     number = value >> low & (1 << high - low + 1) - 1
     if name == "BSIZE":
         return f" BSIZE={BUFFERS[value >> 25 & 1][number]}"
@@ -28,7 +28,7 @@ def field(name: str, high: int, low: int, value: int, register: str) -> str:
         return f" {name}"
     if name in ("SPEED", "ASDV"):
         return f" {name}={SPEEDS[number]}"
-    is_in_digits = name in ("ADDR", "DATA") or (register, name) == ("RAH", "RAH")
+    is_in_digits = name in ("ADDR", "DATA", "TxConfigWord") or (register, name) == ("RAH", "RAH")
     return f" {name}={number:04X}" if is_in_digits else f" {name}={number}"
 
 

@@ -23,6 +23,7 @@ RECEIVE, TRANSMIT = 0x2800, 0x3800  # the rings: base low, base high +4, length 
 TXDW, TXQE, LSC, RXDMT0, RXO, RXT0, MDAC = 1, 2, 4, 0x10, 0x40, 0x80, 0x200
 MPC, RNBC, RUC, ROC = 0x4010, 0x40A0, 0x40A4, 0x40AC
 GPRC, BPRC, MPRC, GPTC, GORC, GOTC, MPTC, BPTC = 0x4074, 0x4078, 0x407C, 0x4080, 0x4088, 0x4090, 0x40F0, 0x40F4
+TOR, TOT, TPR, TPT = 0x40C0, 0x40C8, 0x40D0, 0x40D4
 # every register that is no array, by its offset and its name in the manual
 NAMES = {
     CTRL: "CTRL", STATUS: "STATUS", EERD: "EERD", 0x18: "CTRL_EXT", 0x28: "FCAL", 0x2C: "FCAH", 0x30: "FCT", VET: "VET",
@@ -36,6 +37,9 @@ NAMES = {
     0x40E8: "PTC1023", 0x40EC: "PTC1522", MPTC: "MPTC", BPTC: "BPTC", 0x5000: "RXCSUM",
 }
 PAIRS = {GORC, GORC + 4, GOTC, GOTC + 4}
+# the low halves of all pairs: each is kept as one number, at the offset of its low half
+LOW_HALVES = (GORC, GOTC, TOR, TOT)
+HIGH_HALVES = tuple(low + 4 for low in LOW_HALVES)
 COUNTERS = {offset for offset in NAMES if 0x4000 <= offset < 0x5000} - PAIRS
 ARRAYS = {*range(0x5200, 0x5480, 4), *range(0x5600, 0x5800, 4)}
 REGISTERS = {*NAMES} | ARRAYS
@@ -46,7 +50,13 @@ PLAIN = REGISTERS - COUNTERS - PAIRS - {STATUS, EERD, ICR, ICS, IMS, IMC, *MASKS
 # the registers that the second profile has besides, and what a write of each keeps that only stores
 NAMES_BESIDES = {
     EECD: "EECD", MDIC: "MDIC", 0x178: "TXCW", 0x458: "AIT", 0x2160: "FCRTL", 0x2168: "FCRTH", 0x5800: "WUC",
-    0x5808: "WUFC", 0x5820: "MANC", 0x5B50: "SWSM",
+    0x5808: "WUFC", 0x5820: "MANC", 0x5B50: "SWSM", TOR: "TORL", 0x40C4: "TORH", TOT: "TOTL", 0x40CC: "TOTH",
+    TPR: "TPR", TPT: "TPT",
+    # counters of what never happens
+    0x4000: "CRCERRS", 0x4004: "ALGNERRC", 0x4008: "SYMERRS", 0x400C: "RXERRC", 0x4014: "SCC", 0x4018: "ECOL",
+    0x401C: "MCC", 0x4020: "LATECOL", 0x4028: "COLC", 0x4030: "DC", 0x4034: "TNCRS", 0x4038: "SEC", 0x403C: "CEXTERR",
+    0x4040: "RLEC", 0x4048: "XONRXC", 0x404C: "XONTXC", 0x4050: "XOFFRXC", 0x4054: "XOFFTXC", 0x4058: "FCRUC",
+    0x40A8: "RFC", 0x40B0: "RJC", 0x40B4: "MGTPRC", 0x40B8: "MGTPDC", 0x40BC: "MGTPTC", 0x40F8: "TSCTC", 0x40FC: "TSCTFC",
 }
 MASKS_BESIDES = {
     0x178: 0xC000FFFF, 0x458: 0xFFFF, 0x2160: 0x8000FFF8, 0x2168: 0xFFF8, 0x5800: GREATEST, 0x5808: GREATEST,
@@ -95,7 +105,7 @@ class State:
         self.kept = self.kept | {offset: value}
 
     def count(self, offset: int, by: int = 1) -> None:
-        most = 2**64 - 1 if offset in (GORC, GOTC) else GREATEST
+        most = 2**64 - 1 if offset in LOW_HALVES else GREATEST
         self.put(offset, min(self.at(offset) + by, most))
 
     def raises(self, causes: int) -> None:
@@ -125,9 +135,9 @@ class State:
             return self.phy.mdic
         if offset in (ICS, IMC):
             return 0
-        if offset in (GORC, GOTC):
+        if offset in LOW_HALVES:
             return self.at(offset) & GREATEST
-        if offset in (GORC + 4, GOTC + 4):
+        if offset in HIGH_HALVES:
             return self.at(offset - 4) >> 32
         return self.at(offset)
 
@@ -147,8 +157,10 @@ def read(s: State, offset: int) -> int:
     value = s.look(offset)
     if offset == ICR or offset in COUNTERS:
         s.put(offset, 0)
-    if offset in (GORC + 4, GOTC + 4):
+    if offset in HIGH_HALVES:
         s.put(offset - 4, 0)
+    if offset in (TPR, TPT):
+        s.put(offset, 0)
     return value
 
 
@@ -193,6 +205,13 @@ def size_class(first: int, counted: int) -> int:
     return first + 4 * sum(counted > top for top in (64, 127, 255, 511, 1023))
 
 
+def count_total(s: State, frames: int, octets: int, counted: int) -> None:
+    """Counts a frame among all, in the second profile."""
+    if s.is_second:
+        s.count(frames)
+        s.count(octets, counted)
+
+
 def accepts(s: State, frame: bytes) -> bool:
     rctl = s.at(RCTL)
     address = int.from_bytes(frame[:6], "little")
@@ -233,6 +252,7 @@ def arrive(s: State, frame: bytes) -> tuple[str, int]:
         return "dropped down", 0
     if not rctl & 2:
         return "dropped disabled", 0
+    count_total(s, TPR, TOR, counted)
     if not accepts(s, frame):
         return "dropped rejected", 0
     if counted < 64:
@@ -357,6 +377,7 @@ def transmit(s: State) -> tuple[str, int]:
             s.count(size_class(0x40D8, len(frame) + 4))
         if len(frame) >= 6 and frame[0] & 1:
             s.count(BPTC if frame[:6] == b"\xFF" * 6 else MPTC)
+        count_total(s, TPT, TOT, len(frame) + 4)
         answer, cost = f"sent {head} {len(frame)}", cost + len(frame)
     s.put(TRANSMIT + 0x10, (head + 1) % n)
     if s.at(TRANSMIT + 0x10) == tail:

@@ -1,6 +1,8 @@
 """Rules of the second profile, each with its text in tests/second_reading.py or tests/second_parts.py, and a wrong one:
 tests/turned_rules puts that in its place, and a row of tests/adapter must fail."""
 
+RESET = "    def reset(self) -> None:\n"
+TAKEN_BACK = "        self.now, cost = self.past.pop()\n"
 LOST = "    if not s.is_second or offset >= REACH or offset % 4:\n"
 STORED = [
     ("TXCW keeps 16 bits", "0x178: 0xC000FFFF", "0x178: 0xFFFF"),
@@ -32,8 +34,8 @@ LOST_ACCESSES = [
     ("offsets at multiples of 2", LOST, LOST.replace("% 4", "% 2")),
     ("any offset", LOST, LOST.replace(" or offset % 4", "")),
     ("an offset without a register is refused", LOST, "    if True:\n"),
-    ("a read without a register gives ones", "        return 0\n    value = s.look", "        return GREATEST\n    value = "
-     "s.look"),
+    ("a read without a register gives ones", "        return 0\n    value = s.look",
+     "        return GREATEST\n    value = s.look"),
     ("a write without a register reaches the one before it", "    if is_lost(s, offset):\n        return False\n",
      "    if is_lost(s, offset):\n        s.put(offset - 4, value)\n        return False\n"),
 ]
@@ -41,18 +43,18 @@ CHECK_SEQUENCE = [
     ("SECRC without effect", " and not s.at(RCTL) >> 26 & 1 else", " else"),
     ("SECRC turned round", "and not s.at(RCTL) >> 26 & 1 else", "and s.at(RCTL) >> 26 & 1 else"),
     ("another bit for SECRC", "RCTL) >> 26 & 1", "RCTL) >> 25 & 1"),
-    ("never a check sequence", 'crc32(frame).to_bytes(4, "little") if s.is_second', 'crc32(frame).to_bytes(4, "little") if False'),
+    ("never a check sequence", 'to_bytes(4, "little") if s.is_second and', 'to_bytes(4, "little") if False and'),
     ("the high octet first", 'crc32(frame).to_bytes(4, "little")', 'crc32(frame).to_bytes(4, "big")'),
-    ("the sequence of the frame without its tag", "check_sequence(s, frame)\n    if sum", "check_sequence(s, stored)\n    if "
-     "sum"),
+    ("the sequence of the frame without its tag", "check_sequence(s, frame)\n    if sum",
+     "check_sequence(s, stored)\n    if sum"),
     ("a sequence of zeros", "return crc32(frame).to_bytes", "return (0).to_bytes"),
     ("room without the sequence", "+ len(stored) > ROOM", "+ len(stored) - len(check_sequence(s, frame)) > ROOM"),
-    ("sizes with the sequence", "len(frame) + 4\n    if not s.link", "len(frame) + 4 + len(check_sequence(s, frame))\n    if "
-     "not s.link"),
-    ("sizes without the sequence", "len(frame) + 4\n    if not s.link", "len(frame) + 4 - len(check_sequence(s, frame))\n    "
-     "if not s.link"),
-    ("an arrival's cost without the sequence", "return text, 32 + stored\n", "return text, 32 + (len(frame) if stored else "
-     "0)\n"),
+    ("sizes with the sequence", "len(frame) + 4\n    if not s.link",
+     "len(frame) + 4 + len(check_sequence(s, frame))\n    if not s.link"),
+    ("sizes without the sequence", "len(frame) + 4\n    if not s.link",
+     "len(frame) + 4 - len(check_sequence(s, frame))\n    if not s.link"),
+    ("an arrival's cost without the sequence", "return text, 32 + stored\n",
+     "return text, 32 + (len(frame) if stored else 0)\n"),
     ("an arrival costs 31 with the sequence", "return text, 32 + stored\n", "return text, 31 + stored\n"),
     ("an arrival costs 33 with the sequence", "return text, 32 + stored\n", "return text, 33 + stored\n"),
 ]
@@ -81,15 +83,16 @@ PINS = [
     ("nothing is forgotten", '                heard, fell = "", 0\n', "                pass\n"),
     ("the falls are not forgotten", '                heard, fell = "", 0\n', '                heard = ""\n'),
     ("SK high takes DI", "            if value & SK and not pins & SK:\n", "            if value & SK:\n"),
-    ("a fall of SK takes DI", "            if value & SK and not pins & SK:\n", "            if not value & SK and pins & SK:\n"),
+    ("a fall of SK takes DI", "if value & SK and not pins & SK:\n", "if not value & SK and pins & SK:\n"),
     ("SK low takes DI", "            if value & SK and not pins & SK:\n", "            if not value & SK:\n"),
     ("DI turned round", "str(value >> 2 & 1)", "str(~value >> 2 & 1)"),
     ("eight bits are a command", "if len(heard) < 9 else", "if len(heard) < 8 else"),
     ("ten bits are a command", "if len(heard) < 9 else", "if len(heard) < 10 else"),
-    ("the last nine bits", 'heard += str(value >> 2 & 1) if len(heard) < 9 else ""', "heard = (heard + str(value >> 2 & "
-     "1))[-9:]"),
+    ("the last nine bits", 'heard += str(value >> 2 & 1) if len(heard) < 9 else ""',
+     "heard = (heard + str(value >> 2 & 1))[-9:]"),
     ("falls before the ninth bit count", " and len(heard) == 9:\n                fell", ":\n                fell"),
-    ("a rise of SK gives the next bit", "if pins & SK and not value & SK and len", "if not pins & SK and value & SK and len"),
+    ("a rise of SK gives the next bit", "if pins & SK and not value & SK and len",
+     "if not pins & SK and value & SK and len"),
     ("DO is 0 where nothing is read", "        bit = 1\n", "        bit = 0\n"),
     ("DO without CS", "if self.pins & CS and len", "if len"),
     ("101 reads too", 'startswith("110")', 'startswith(("110", "101"))'),
@@ -103,12 +106,12 @@ PINS = [
     ("the lowest bit first", ":016b}\" for i in range(64))", ":016b}\"[::-1] for i in range(64))"),
     ("DO is 1 until SK falls", "if self.fell else 0\n", "if self.fell else 1\n"),
     ("no bit of 0 before the word", "bits[(self.fell - 1) % 1024]) if self.fell else 0", "bits[self.fell % 1024])"),
-    ("a reset clears the pins", "    def reset(self) -> None:\n", "    def reset(self) -> None:\n        self.pins = Pins()\n"),
+    ("a reset clears the pins", RESET, f"{RESET}        self.pins = Pins()\n"),
 ]
 PHY = [
     *((f"word {at} at power on", f"{at}: 0x{word},", f"{at}: 0x{word} ^ 1,") for at, word in (
-        (0, "1140"), (1, "7949"), (2, "0141"), (3, "0C20"), (4, "0DE1"), (5, "01E0"), (9, "0E00"), (10, "3C00"), (16, "0360"),
-        (17, "A800"),
+        (0, "1140"), (1, "7949"), (2, "0141"), (3, "0C20"), (4, "0DE1"), (5, "01E0"), (9, "0E00"), (10, "3C00"),
+        (16, "0360"), (17, "A800"),
     )),
     ("word 20 at power on", "20: 0x0D60,", "19: 0x0D60,"),
     ("another word at power on", "POWER_ON.get(i, 0) for", "POWER_ON.get(i, i // 31) for"),
@@ -129,9 +132,10 @@ PHY = [
     ("reset stays", "~(1 << 15 | 1 << 9) if at == 0", "~(1 << 9) if at == 0"),
     ("restart of negotiation stays", "~(1 << 15 | 1 << 9) if at == 0", "~(1 << 15) if at == 0"),
     ("two bits of every word", "~(1 << 15 | 1 << 9) if at == 0 else data", "~(1 << 15 | 1 << 9)"),
-    ("a reset of the PHY changes its words", "            words = (*words[:at]", "            words = Phy().words if at == 0 and "
-     "data >> 15 else words\n            words = (*words[:at]"),
-    ("the word behind is written", "(*words[:at], stored, *words[at + 1 :])", "(*words[:at], stored, stored, *words[at + 2 :])"),
+    ("a reset of the PHY changes its words", "            words = (*words[:at]",
+     "            words = Phy().words if at == 0 and data >> 15 else words\n            words = (*words[:at]"),
+    ("the word behind is written", "(*words[:at], stored, *words[at + 1 :])",
+     "(*words[:at], stored, stored, *words[at + 2 :])"),
     ("OP 11 writes", "elif operation == 1 and", "elif operation & 1 and"),
     ("OP 00 writes", "elif operation == 1 and", "elif operation in (0, 1) and"),
     ("OP 11 reads", "elif operation == 2:", "elif operation >= 2:"),
@@ -155,12 +159,9 @@ PHY = [
     ("MDAC of a read alone", "        if value >> 29 & 1:\n", "        if value >> 29 & 1 and value >> 26 & 3 == 2:\n"),
     ("MDAC of PHY 1 alone", "        if value >> 29 & 1:\n", "        if value >> 29 & 1 and value >> 21 & 31 == 1:\n"),
     ("another bit for MDAC", "= 1, 2, 4, 0x10, 0x40, 0x80, 0x200\n", "= 1, 2, 4, 0x10, 0x40, 0x80, 0x100\n"),
-    ("a reset clears the PHY", "    def reset(self) -> None:\n", "    def reset(self) -> None:\n        self.phy = Phy()\n"),
-    ("a reset clears MDIC", "    def reset(self) -> None:\n", "    def reset(self) -> None:\n        self.phy = Phy(0, "
-     "self.phy.words) if self.phy else Phy()\n"),
-    ("a reverse step leaves the pins", "        self.now, cost = self.past.pop()\n", "        old = self.now.pins\n        "
-     "self.now, cost = self.past.pop()\n        self.now = copy.copy(self.now)\n        self.now.pins = old\n"),
-    ("a reverse step leaves the PHY", "        self.now, cost = self.past.pop()\n", "        old = self.now.phy\n        "
-     "self.now, cost = self.past.pop()\n        self.now = copy.copy(self.now)\n        self.now.phy = old\n"),
+    ("a reset clears the PHY", RESET, f"{RESET}        self.phy = Phy()\n"),
+    ("a reset clears MDIC", RESET, f"{RESET}        self.phy = Phy(0, self.phy.words)\n"),
+    *((f"a reverse step leaves the {part}", TAKEN_BACK, f"        old = self.now.{part}\n{TAKEN_BACK}"
+       f"        self.now = copy.copy(self.now)\n        self.now.{part} = old\n") for part in ("pins", "phy")),
 ]
 TURNED = [*STORED, *LOST_ACCESSES, *CHECK_SEQUENCE, *COSTS, *PINS, *PHY]

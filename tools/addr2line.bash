@@ -34,7 +34,7 @@ function counter_in(line,  rest, digits) {
   sub(/^0+/, "", digits)
   return length(digits) > 16 ? "" : digits == "" ? "0" : digits
 }
-# A function and a place as a source: nothing in it breaks a line, or ends the source (docs/kept.md).
+# A function and a place as a source: nothing in it breaks a line, or ends the source (docs/c-library.md).
 function source_of(called, place,  text) {
   text = (called ~ /\(/ ? called : called "()") ", " place
   gsub(/[\001-\037\177]/, "?", text)

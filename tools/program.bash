@@ -16,7 +16,7 @@ seen_file=$top/dist/.seen-$me
 # of these files it was seen that they are as dist/SOURCES has them
 well_file=$seen_file.well
 
-# What stat says of a file; a change of it that keeps all this stays unseen (docs/dist.md says when that can be).
+# What stat says of a file; a change of it that keeps all this stays unseen (docs/team/dist.md says when that can be).
 LOOK='%i %s %.Y %.Z'
 # dist or own, the program to run; and why it is not that of dist/
 chosen='' why=''

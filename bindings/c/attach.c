@@ -115,7 +115,7 @@ static em_code take_out(em_machine *machine, const em_range ranges[2]) {
 /* Takes events back. (From then on an empty journal does not say that there was no event.) */
 static em_code go_back(em_machine *machine, size_t n, size_t *done) {
   em_code why = BY_KEEPING(machine, back, n, done);
-  if (why == EM_OK && *done > 0) machine->state |= WENT_BACK;
+  if (why == EM_OK && *done > 0) machine->state |= BEGUN;
   return why;
 }
 
@@ -303,6 +303,13 @@ em_code em_make_as_with_eeprom(em_machine *machine, uint32_t profile, uint64_t b
   return UNLESS_CALLING(begun(machine, budget, proved_make_as_with_eeprom(machine, profile, base, memory, budget, words)));
 }
 
+em_code em_load(em_machine *machine, const uint8_t *octets, size_t length) {
+  if (machine->state & CALLING) return EM_BUSY;
+  em_code why = proved_load(machine, octets, length);
+  if (why == EM_OK) machine->state = BEGUN;
+  return why;
+}
+
 /* what touches no memory of the caller's */
 #define PASSED(call, parameters, ...) \
   em_code em_##call parameters { return UNLESS_CALLING(BY_KEEPING(machine, call, __VA_ARGS__)); }
@@ -336,8 +343,29 @@ em_code em_write_sized(em_machine *machine, uint32_t offset, uint32_t octets, ui
                                                  : proved_write_sized(machine, offset, octets, value));
 }
 
-em_code em_wire_next(em_machine *machine, uint8_t *out, size_t room, size_t *length) {
-  return UNLESS_CALLING(proved_wire_next(machine, out, room, length));
+em_code em_let_go(em_machine *machine, size_t *count) { return UNLESS_CALLING(proved_let_go(machine, count)); }
+
+em_code em_let_go_always(em_machine *machine, bool always) {
+  if (machine->state & CALLING) return EM_BUSY;
+  if (!machine->made) return EM_NOT_MADE;
+  machine->state = always ? machine->state | LETS_GO : machine->state & ~(uint32_t)LETS_GO;
+  return EM_OK;
 }
 
-em_code em_let_go(em_machine *machine, size_t *count) { return UNLESS_CALLING(proved_let_go(machine, count)); }
+/* Lets frames go where EM_MOST_KEPT of them still have their octets, beyond one for each event that can be taken back. To ask
+   for it costs as much as to look at one frame, and a lot of frames shares the cost of letting them go. */
+static void let_lot_go(em_machine *machine) {
+  size_t sent = 0, events = 0, length = 0, count;
+  uint8_t none;
+  if (em_wire_count(machine, &sent) != EM_OK || em_can_go_back(machine, &events) != EM_OK) return;
+  if (sent < events + EM_MOST_KEPT) return;
+  em_code why = em_wire_frame(machine, sent - events - EM_MOST_KEPT, &none, 0, &length);
+  if (why == EM_ROOM) (void)!proved_let_go(machine, &count);
+}
+
+em_code em_wire_next(em_machine *machine, uint8_t *out, size_t room, size_t *length) {
+  if (machine->state & CALLING) return EM_BUSY;
+  em_code why = proved_wire_next(machine, out, room, length);
+  if (why == EM_NO_FRAME && machine->state & LETS_GO) let_lot_go(machine);
+  return why;
+}

@@ -150,6 +150,11 @@ typedef enum em_code {
   EM_CAPTURE_LENGTH = 55, /* a packet has more octets than the snap length or its block allows */
   EM_CAPTURE_INTERFACE = 56, /* a packet is of an interface that its section has not described */
   EM_NO_PROFILE = 57, /* there is no profile of the number: they are of enum em_profiles */
+  EM_STORED_MAGIC = 58, /* the octets of em_load do not begin with BUNJELAV */
+  EM_STORED_VERSION = 59, /* they have a version that is not known */
+  EM_STORED_LENGTH = 60, /* they are not as many as they say */
+  EM_STORED_SUM = 61,  /* they have another check sum than they say */
+  EM_STORED_VALUE = 62, /* no machine is stored so */
   EM_CODE_WIDE = 0x7FFFFFFF /* none: it gives the type 32 bits, in which numbers of later versions have room */
 } em_code;
 
@@ -190,6 +195,9 @@ typedef struct em_note {
 
 /* Room in which each frame that a machine sends fits: 16,380 gathered octets and a tag. */
 #define EM_MOST_SENT 16384
+
+/* With em_let_go_always a machine keeps the octets of at most this many frames besides those that em_back can reach. */
+#define EM_MOST_KEPT 1024
 
 /* ---- making and freeing */
 
@@ -239,6 +247,23 @@ EM_CHECKED em_code em_profile(const em_machine *machine, uint32_t *profile);
    machine has, and the time to copy it: the journal's octets, records and notes, and the pages that were written. */
 EM_CHECKED em_code em_copy(const em_machine *machine, em_machine *copy);
 
+/* Writes the machine down as octets, of which em_load makes it again, in another process or on another host: all that
+   calls tell of it but its journal with the notes, and the tag; and how far em_wire_next has come. Guest memory is as
+   em_peek tells it; memory that is attached is the caller's to keep. `length` tells how many octets these are: 2 KB,
+   the frames that wait and that were sent, an octet for each page of guest memory, and the 4,096 of each page that is
+   not zero. Where `room` is too small it is refused as EM_ROOM, and `length` is told all the same; else as EM_MEMORY.
+   docs/library.md has the form, in which a machine is spelled in one way. Cost: memory for as many octets while the
+   call lasts, and to copy them twice. */
+EM_CHECKED em_code em_store(const em_machine *machine, uint8_t *out, size_t room, size_t *length);
+
+/* Makes the machine that em_store has written down as these octets; em_store would tell the same of it. Its journal is
+   empty, and of the same budget: em_back goes back to where it was loaded, and no further. Its tag is 0, no memory is
+   attached, em_let_go_always is off, and its run can't be kept or saved (EM_BEGUN): no line makes what it begins with.
+   The octets may come from anywhere. Refused as EM_MADE_ALREADY, EM_STORED_MAGIC, EM_STORED_VERSION, EM_STORED_LENGTH
+   or EM_STORED_SUM, the first that holds, or else as EM_STORED_VALUE or EM_MEMORY. Cost: that of em_make and of
+   em_store. */
+EM_CHECKED em_code em_load(em_machine *machine, const uint8_t *octets, size_t length);
+
 /* Frees the machine that the handle holds, if it holds one; then it holds none, and may be made again. Cost: the
    journal's records, and the pages that were written. */
 void em_free(em_machine *m);
@@ -268,7 +293,7 @@ typedef struct em_register {
 
 /* All registers that are not zero, by offset: at most EM_REGISTERS of them. Where `room` is too small it is refused as
    EM_ROOM, and `count` tells how much is needed. It is no event. The cost is that of some thousand looks. */
-#define EM_REGISTERS 360
+#define EM_REGISTERS 392
 EM_CHECKED em_code em_registers(const em_machine *machine, em_register *out, size_t room, size_t *count);
 
 /* ---- rings; constant */
@@ -445,6 +470,12 @@ EM_CHECKED em_code em_wire_next(em_machine *machine, uint8_t *out, size_t room, 
    first. The memory is used again for frames that are sent later. It is no event, and em_back does not bring the octets
    back. The cost is a look into each event that can be taken back, and that of moving the octets that stay. */
 EM_CHECKED em_code em_let_go(em_machine *machine, size_t *count);
+
+/* The same as a setting, which holds until it is changed, the machine is freed, and for each copy of it. With it
+   em_wire_next lets go by itself when it has no frame to hand over: so no frame goes that was not handed over. It does so in
+   lots. A machine then keeps the octets of at most EM_MOST_KEPT frames more than it has events that can be taken back, and
+   those that wait to be handed over. */
+EM_CHECKED em_code em_let_go_always(em_machine *machine, bool always);
 
 /* ---- captures
 
@@ -639,14 +670,20 @@ typedef enum em_warned {
   EM_WARN_DESCRIPTOR_UNWRITTEN = 4, /* the adapter owns a descriptor that is all zeros */
   EM_WARN_STATUS_LEFT = 5, /* the adapter owns a descriptor whose status has DD */
   EM_WARN_INTERRUPTS_BEFORE_RINGS = 6, /* causes of a ring are let through while the ring's length is 0 */
-  EM_WARN_READ_AGAIN = 7 /* a read of ICR gave 0, since an earlier event cleared it, and the frame still waits */
+  EM_WARN_READ_AGAIN = 7, /* a read of ICR gave 0, since an earlier event cleared it, and the frame still waits */
+  EM_WARN_RING_OUTSIDE_MEMORY = 8, /* the adapter owns descriptors of a ring that begins at this address, and leaves guest memory */
+  EM_WARN_BUFFERS_OVERLAP = 9, /* the adapter is given a receive descriptor, at this address (octets), whose buffer lies over that of another one */
+  EM_WARN_TAIL_PAST_HEAD = 10, /* the tail went past the head, so that the adapter has fewer descriptors than it was given */
+  EM_WARN_HEAD_WHILE_ENABLED = 11, /* the head is moved by the driver while EN is set in RCTL or TCTL */
+  EM_WARN_WRITTEN_WHILE_OWNED = 12 /* octets were written that are the adapter's: of this descriptor, at this address (octets), or of its buffer */
 } em_warned;
 
 /* What a driver seems to get wrong by an access of a register. A number that the rule has not is 0. */
 typedef struct em_warning {
-  uint64_t address; /* where the descriptor lies */
+  uint64_t address; /* where the descriptor lies, or the ring */
   uint32_t rule;    /* an em_warned */
-  uint32_t offset;  /* of the register that was accessed; of EM_WARN_INTERRUPTS_BEFORE_RINGS of RDLEN or TDLEN */
+  uint32_t offset;  /* of the register that was accessed; of EM_WARN_INTERRUPTS_BEFORE_RINGS of RDLEN or TDLEN, and of
+                       EM_WARN_WRITTEN_WHILE_OWNED of RDH or TDH */
   uint32_t index;   /* the descriptor's index, or what the tail holds */
   uint32_t count;   /* how many descriptors the ring has */
   uint32_t kept;    /* the bits that the register keeps, */
@@ -655,10 +692,11 @@ typedef struct em_warning {
   char text[256];   /* "warning tail-past-ring: RDT 8 is past the ring of 8, write an index below that" */
 } em_warning;
 
-/* What a driver seems to get wrong by the newest event, as the machine is behind it: a write of a register, or a read
-   of ICR that gave 0. `count` tells how many warnings there are; the others are of the rule 0. The cost is that of a
-   look at each descriptor that a write of RDT or TDT gives to the adapter; of another write it is constant. */
-EM_CHECKED em_code em_warnings(const em_machine *machine, em_warning warnings[6], size_t *count);
+/* What a driver seems to get wrong by the newest event, as the machine is behind it: a write of a register or of guest memory,
+   or a read of ICR that gave 0. `count` tells how many warnings there are; the others are of the rule 0. The cost is that of a
+   look at each descriptor that a write of RDT or TDT gives to the adapter, of RDT at all the adapter's for each of them, and of
+   a write of guest memory at all the adapter's; of another write it is constant. */
+EM_CHECKED em_code em_warnings(const em_machine *machine, em_warning warnings[10], size_t *count);
 
 /* What is wrong with a descriptor first; 0 where nothing is. The numbers stay as they are. */
 typedef enum em_trouble {
@@ -757,8 +795,8 @@ EM_CHECKED em_code em_fifo_text(const em_machine *machine, uint8_t *out, size_t 
    to a file, as a line of the script language with its answer and with where it comes from:
 
        # em_debug --memory 65536 --budget 1048576 --mac 525400123456
-       w 00002818 00000003 = ok @ driver.c:57
-       r 000000C0 = 00000004 @ driver.c:61
+       w 2818 3 =ok @driver.c:57
+       r C0 =00000004 @driver.c:61
 
    em_debug, em_record and em_page take the file as it is. Each line is in the file before its call returns, by one
    write(2) or by a mapping: it is there when the process dies, by whatever signal, by abort or _exit. (It does not
@@ -787,6 +825,16 @@ EM_CHECKED em_code em_record_to(em_machine *machine, const char *path);
    Behind a fork only one of the two processes may use the machine. */
 EM_CHECKED em_code em_record_mapped(em_machine *machine, const char *path);
 
+/* Writes the run of a machine that was not kept to a file, as lines that play to the same machine: the events that the
+   journal has, with their answers, and their tags as program counters. What was refused, or taken back, is not among them.
+   Of a frame that was dropped the octets are kept nowhere: one of the same length stands there, which is dropped for the
+   same reason, and does the same.
+
+   Refused as EM_NOT_MADE, EM_BEGUN where events were taken back, or where the journal may have dropped some: it
+   has all as long as they cost less than its budget by 65,536 octets; EM_MEMORY or EM_FILE, where errno says why. The
+   machine stays as it is. Cost: that of a copy, of the events once more, and of their lines. */
+EM_CHECKED em_code em_save(const em_machine *machine, const char *path);
+
 /* EM_OK where the run is kept, and all that happened so far is in the file. EM_FILE where that failed: `error` tells the
    host's number of the error (errno). It is told once; from then on the run is not kept. EM_UNRECORDED where it is not.
    Constant. */
@@ -794,8 +842,8 @@ EM_CHECKED em_code em_recording_status(em_machine *machine, int *error);
 
 /* Where the calls from now on come from: a line of a file, as `__FILE__` and `__LINE__` give it. The text is not copied: it
    has to stay until em_source or em_tag is called again, or em_free. It is written in the lines of a run that is kept, as
-   ` @ driver.c:57`, and else nowhere. A tag that em_tag sets later and that is not 0 stands there in its place, as a program
-   counter: ` @ 0x00005555DEADBEEF`. With NULL or an empty name nothing stands there. Constant. */
+   ` @driver.c:57`, and else nowhere. A tag that em_tag sets later and that is not 0 stands there in its place, as a program
+   counter: ` @0x5555DEADBEEF`. With NULL or an empty name nothing stands there. Constant. */
 EM_CHECKED em_code em_source(em_machine *machine, const char *file, uint32_t line);
 
 /* A handle, of which the next call comes from here: `must(em_write(EM_HERE(&m), RDT, tail))`. */

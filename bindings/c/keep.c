@@ -12,14 +12,22 @@
 #include <string.h>
 #include <unistd.h>
 
-/* the register by which software reads the EEPROM, and how many words that has */
-enum { EERD = 0x14, START = 1, ADDRESS = 8, DATA = 16, WORDS = 64 };
+/* the register by which software reads the EEPROM */
+enum { EERD = 0x14, START = 1, ADDRESS = 8, DATA = 16 };
 
 /* ---- the file */
 
 static int write_begins(kept *run, const char *path) {
   run->file = open(path, O_WRONLY | O_CREAT | O_TRUNC | O_APPEND | O_CLOEXEC, 0666);
   return run->file < 0 ? errno : 0;
+}
+
+/* How many lines the text has. */
+static uint64_t lines_of(const kept_text *text) {
+  uint64_t count = 0;
+  const uint8_t *at = text->octets, *const end = at + text->used;
+  for (; (at = memchr(at, '\n', (size_t)(end - at))) != NULL; at++) count++;
+  return count;
 }
 
 static int write_lines(kept *run) {
@@ -31,6 +39,7 @@ static int write_lines(kept *run) {
     if (done < 0 && errno == EINTR) done = 0;
     else if (done <= 0) return errno != 0 ? errno : EIO;
   }
+  run->lines += lines_of(&run->text);
   return 0;
 }
 
@@ -46,21 +55,16 @@ static void fail(kept *run, int error) {
   run->fault = error;
 }
 
-/* How many lines the text has. */
-static uint64_t lines_of(const kept_text *text) {
-  uint64_t count = 0;
-  const uint8_t *at = text->octets, *const end = at + text->used;
-  for (; (at = memchr(at, '\n', (size_t)(end - at))) != NULL; at++) count++;
-  return count;
-}
-
-void put_lines(kept *run) {
+static void put(kept *run, int by_mapping(kept *)) {
   if (run->file < 0) return;
   /* (no line is longer than the room) */
-  int error = run->text.used == 0 ? EOVERFLOW : run->is_mapped ? map_lines(run) : write_lines(run);
+  int error = run->text.used == 0 ? EOVERFLOW : run->is_mapped ? by_mapping(run) : write_lines(run);
   if (error != 0) fail(run, error);
-  run->lines += lines_of(&run->text);
 }
+
+void put_lines(kept *run) { put(run, map_lines); }
+
+void put_line(kept *run) { put(run, map_line); }
 
 /* ---- which line sent a frame */
 
@@ -103,14 +107,20 @@ static em_code read_word(em_machine *machine, uint32_t address, uint16_t *word, 
   return why;
 }
 
+em_code what_it_is_of(em_machine *machine, uint32_t *profile, uint64_t *base, uint64_t *size, uint16_t words[EEPROM_WORDS],
+                      uint64_t *tag) {
+  em_code why = em_profile(machine, profile);
+  if (why == EM_OK) why = em_memory_base(machine, base);
+  if (why == EM_OK) why = em_memory_size(machine, size);
+  for (uint32_t i = 0; i < EEPROM_WORDS && why == EM_OK; i++) why = read_word(machine, i, &words[i], tag);
+  return why;
+}
+
 static em_code put_head(em_machine *machine, kept *run) {
-  uint16_t words[WORDS];
+  uint16_t words[EEPROM_WORDS];
   uint32_t profile = 0;
   uint64_t base = 0, size = 0;
-  em_code why = em_profile(machine, &profile);
-  if (why == EM_OK) why = em_memory_base(machine, &base);
-  if (why == EM_OK) why = em_memory_size(machine, &size);
-  for (uint32_t i = 0; i < WORDS && why == EM_OK; i++) why = read_word(machine, i, &words[i], &run->counter);
+  em_code why = what_it_is_of(machine, &profile, &base, &size, words, &run->counter);
   if (why != EM_OK) return why;
   kept_head(profile, base, size, machine->state >> BUDGET, words, &run->text);
   put_lines(run);
@@ -121,7 +131,7 @@ static em_code put_head(em_machine *machine, kept *run) {
 
 static bool has_begun(const em_machine *machine) {
   size_t events = 0;
-  return machine->state & WENT_BACK || em_can_go_back(machine, &events) != EM_OK || events > 0;
+  return machine->state & BEGUN || em_can_go_back(machine, &events) != EM_OK || events > 0;
 }
 
 /* Begins to keep a run: the file, and in it what the machine was made of. */

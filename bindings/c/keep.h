@@ -4,8 +4,17 @@
 
 #include "layer.h"
 
+enum { EEPROM_WORDS = 64 };
+
+/* What a machine is made of, and the tag of its next events. The words are read by events that are taken back. */
+em_code what_it_is_of(em_machine *machine, uint32_t *profile, uint64_t *base, uint64_t *size, uint16_t words[EEPROM_WORDS],
+                      uint64_t *tag);
+
 /* Puts the text at the file's end. Where that fails the file is closed: nothing is put there any more. */
 void put_lines(kept *run);
+
+/* The same of a text that is one line. */
+void put_line(kept *run);
 
 /* Keeps which line sent the frames that the newest call sent, and forgets those that it took back. */
 void keep_sent(const em_machine *machine, kept *run);
@@ -17,6 +26,9 @@ int map_begins(kept *run, const char *path);
 
 /* Puts the text behind the lines that are there. */
 int map_lines(kept *run);
+
+/* The same of a text that is one line. */
+int map_line(kept *run);
 
 /* The file ends behind its last line, and is mapped no more. */
 void map_ends(kept *run);

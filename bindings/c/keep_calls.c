@@ -8,9 +8,9 @@ static const uint8_t *name_of(const kept *run) { return (const uint8_t *)(run->n
 
 #define OF(run) name_of(run), strlen((const char *)name_of(run)), (run)->line, (run)->counter
 
-/* Puts the lines of a call that gave a number into the file. */
+/* Puts the line of a call that is one event, and gave a number, into the file. */
 static em_code put(kept *run, em_code code) {
-  put_lines(run);
+  put_line(run);
   return code;
 }
 
@@ -66,7 +66,8 @@ em_code keep_tx_step(em_machine *machine, em_note *event) {
 em_code keep_back(em_machine *machine, size_t n, size_t *done) {
   kept *run = kept_of(machine);
   if (n == 0) return proved_back(machine, n, done);
-  em_code code = put(run, kept_back(machine, n, OF(run), &run->text, done));
+  em_code code = kept_back(machine, n, OF(run), &run->text, done);
+  put_lines(run);
   keep_sent(machine, run);
   return code;
 }

@@ -18,6 +18,7 @@ PROVED(make_at_with_eeprom);
 PROVED(make_as);
 PROVED(make_as_with_eeprom);
 PROVED(copy);
+PROVED(load);
 PROVED(free);
 PROVED(read);
 PROVED(write);
@@ -38,9 +39,10 @@ PROVED(wire_next);
 PROVED(let_go);
 
 /* What a handle's state has: whether memory is attached, or a function of it is being called (one of these two at most);
-   whether the run is kept, in which case the handle has a `kept` in the place of what is attached; whether events were taken
-   back; and above these the journal's budget. */
-enum { ATTACHED = 1, CALLING = 2, KEPT = 4, WENT_BACK = 8, BUDGET = 4 };
+   whether the run is kept, in which case the handle has a `kept` in the place of what is attached; whether the machine may have
+   performed events of which the journal says nothing, since some were taken back or it was loaded; whether sent frames are let
+   go of without being asked for; and above these the journal's budget, which is 0 of a machine that was loaded. */
+enum { ATTACHED = 1, CALLING = 2, KEPT = 4, BEGUN = 8, LETS_GO = 16, BUDGET = 5 };
 
 /* how many octets a memory write has at most */
 enum { MOST = 16384 };

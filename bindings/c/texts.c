@@ -48,6 +48,11 @@ const char *em_strerror(em_code code) {
     case EM_CAPTURE_LENGTH: return "CaptureLength: a captured length is too large";
     case EM_CAPTURE_INTERFACE: return "CaptureInterface: a packet's interface is not described";
     case EM_NO_PROFILE: return "NoProfile: the profiles are 0, the table, and 1, the adapter";
+    case EM_STORED_MAGIC: return "StoredMagic: the octets do not begin with BUNJELAV";
+    case EM_STORED_VERSION: return "StoredVersion: the octets' version is not known";
+    case EM_STORED_LENGTH: return "StoredLength: the octets are not as many as they say";
+    case EM_STORED_SUM: return "StoredSum: the octets have another check sum";
+    case EM_STORED_VALUE: return "StoredValue: no machine is stored so";
     default: return "Unknown: no refusal has the number";
   }
 }

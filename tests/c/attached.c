@@ -52,7 +52,8 @@ static bool is_busy(em_machine *m) {
     em_sync_in_range(m, 0, octets, 1, &n), em_arrive(m, ram, 60, &note), em_set_link(m, false), em_rx_step(m, &note),
     em_tx_step(m, &note), em_run_rx(m, 1, &n), em_run_tx(m, 1, &n), em_back(m, 1, &n), em_tag(m, 5),
     em_read_sized(m, STATUS, 4, &size), em_write_sized(m, IMS, 4, 1), em_wire_next(m, octets, sizeof octets, &n),
-    em_let_go(m, &n), em_attach(m, &none), em_detach(m), em_copy(m, m)
+    em_let_go(m, &n), em_let_go_always(m, true), em_attach(m, &none), em_detach(m), em_copy(m, m),
+    em_load(m, octets, sizeof octets)
   };
   for (size_t i = 0; i < sizeof refused / sizeof *refused; i++) {
     if (refused[i] != EM_BUSY) return false;
@@ -61,6 +62,7 @@ static bool is_busy(em_machine *m) {
   em_machine copy = EM_NO_MACHINE;
   if (em_copy(m, &copy) != EM_OK || em_look(&copy, STATUS, &value) != EM_OK) return false;
   em_free(&copy);
+  if (em_store(m, octets, 0, &n) != EM_ROOM) return false;
   return em_look(m, STATUS, &value) == EM_OK && value == 0x83 && em_peek(m, 0, octets, 1) == EM_OK
     && em_memory_size(m, &size) == EM_OK && em_can_go_back(m, &n) == EM_OK && em_written(m, 0, ranges) == EM_OK
     && em_pcap_write(m, "/dev/null", NULL) == EM_OK;

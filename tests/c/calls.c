@@ -566,7 +566,7 @@ static void send_packet(em_machine *machine, uint32_t index, size_t length, uint
   memset(octets, octet, sizeof octets);
   OK(em_poke(machine, BUFFER, octets, length));
   put_descriptor(machine, TX_RING + 16 * index, BUFFER, (unsigned)length, EOP);
-  OK(em_write(machine, TDT, index + 1));
+  OK(em_write(machine, TDT, (index + 1) % DESCRIPTORS));
   OK(em_tx_step(machine, &event));
   CHECK(event.kind == EM_SENT && event.length == length);
 }
@@ -670,6 +670,53 @@ static void lets_frames_go(void) {
   CHECK(reach(&machine) == 0 && is_frame(&machine, 0, 0, 0));
   OK(em_wire_count(&machine, &count));
   CHECK(count == 2 && lets_go(&machine, 2) && is_none_next(&machine));
+  em_free(&machine);
+}
+
+/* so many frames are sent, each handed over and asked after; how many of them have octets still */
+static size_t kept_of(em_machine *machine, int first, int frames) {
+  size_t kept = 0, length;
+  uint8_t none;
+  for (int i = first; i < first + frames; i++) {
+    send_packet(machine, (uint32_t)i % DESCRIPTORS, 60, (uint8_t)i);
+    CHECK(is_next(machine, 60, (uint8_t)i) && is_none_next(machine));
+  }
+  for (int i = 0; i < first + frames; i++) kept += em_wire_frame(machine, (size_t)i, &none, 0, &length) == EM_ROOM;
+  return kept;
+}
+
+/* the setting: only what was handed over goes, in lots, and no step back misses its frame */
+static void lets_frames_go_always(void) {
+  em_machine machine = EM_NO_MACHINE, copy = EM_NO_MACHINE;
+  size_t events, done, sent;
+  REFUSED(em_let_go_always(&machine, true), EM_NOT_MADE);
+  OK(em_make(&machine, MEMORY, 65536, MAC));
+  OK(em_write(&machine, TDBAL, TX_RING));
+  OK(em_write(&machine, TDLEN, 16 * DESCRIPTORS));
+  OK(em_write(&machine, TCTL, TCTL_EN));
+  CHECK(kept_of(&machine, 0, 4000) == 4000);
+  OK(em_let_go_always(&machine, true));
+  events = reach(&machine);
+  CHECK(events < 4000 - EM_MOST_KEPT && is_none_next(&machine));
+  CHECK(kept_of(&machine, 4000, 4000) <= reach(&machine) + EM_MOST_KEPT);
+  OK(em_copy(&machine, &copy));
+  /* frames that wait to be handed over stay, however many they are */
+  for (int i = 0; i < 4000; i++) send_packet(&machine, (uint32_t)i % DESCRIPTORS, 61, (uint8_t)i);
+  for (int i = 0; i < 4000; i++) CHECK(is_next(&machine, 61, (uint8_t)i));
+  CHECK(is_none_next(&machine));
+  /* the frames that steps back take off have their octets, and what is sent again is handed over */
+  OK(em_back(&machine, SIZE_MAX, &done));
+  OK(em_wire_count(&machine, &sent));
+  CHECK(done > 0 && sent < 12000 && kept_of(&machine, (int)sent, 1) >= 1);
+  OK(em_let_go_always(&copy, false));
+  CHECK(kept_of(&copy, 8000, 3000) >= 3000);
+  em_free(&copy);
+  em_free(&machine);
+  OK(em_make(&machine, MEMORY, 65536, MAC)); /* another machine has not the setting */
+  OK(em_write(&machine, TDBAL, TX_RING));
+  OK(em_write(&machine, TDLEN, 16 * DESCRIPTORS));
+  OK(em_write(&machine, TCTL, TCTL_EN));
+  CHECK(kept_of(&machine, 0, 4000) == 4000);
   em_free(&machine);
 }
 
@@ -812,7 +859,7 @@ static void names_registers_and_refusals(void) {
   REFUSED(em_refusal(7, room, sizeof room, &length), EM_NO_REFUSAL);
   for (uint32_t code = 0, known = 0; code < 1000; code++) {
     known += em_refusal(code, room, sizeof room, &length) == EM_OK;
-    if (code == 999) CHECK(known == 40); /* as many as enum em_code has, without EM_OK */
+    if (code == 999) CHECK(known == 45); /* as many as enum em_code has, without EM_OK */
   }
 }
 
@@ -831,7 +878,7 @@ static void tells_texts(void) {
 }
 
 /* How many octets each layout has where a pointer has 8, by the sizes of its fields: a program that was compiled with
-   another one has to find its own calls (docs/DECISIONS.md). */
+   another one has to find its own calls (docs/team/DECISIONS.md). */
 static void has_its_layouts(void) {
   if (sizeof(void *) != 8) return;
   CHECK(sizeof(em_code) == 4 && sizeof(em_region) == 24 && sizeof(em_ram) == 40 && sizeof(em_machine) == 64);
@@ -961,6 +1008,7 @@ int main(void) {
   sends();
   hands_frames_over();
   lets_frames_go();
+  lets_frames_go_always();
   goes_back();
   runs_the_engines();
   tells_who_did_it();

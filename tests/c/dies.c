@@ -59,7 +59,7 @@ static size_t lines(bool *are_whole) {
     *end = 0;
     if (*at == '#') continue;
     count++;
-    if (!strstr(at, " = ") || !strstr(at, "dies.c:") || !strchr("wra", *at)) *are_whole = false;
+    if (!strstr(at, " =") || !strstr(at, "dies.c:") || !strchr("wra", *at)) *are_whole = false;
   }
   return count;
 }

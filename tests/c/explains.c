@@ -265,17 +265,17 @@ static void explains_memory_at_a_base(void) {
 
 /* ---- warnings */
 
-static size_t warns(em_machine *machine, em_warning warnings[6]) {
-  size_t count = 7;
-  memset(warnings, 7, 6 * sizeof *warnings);
+static size_t warns(em_machine *machine, em_warning warnings[10]) {
+  size_t count = 11;
+  memset(warnings, 7, 10 * sizeof *warnings);
   OK(em_warnings(machine, warnings, &count));
-  for (size_t i = count; i < 6; i++) CHECK(warnings[i].rule == 0 && has_line(warnings[i].text, ""));
+  for (size_t i = count; i < 10; i++) CHECK(warnings[i].rule == 0 && has_line(warnings[i].text, ""));
   return count;
 }
 
 static void warns_of_accesses(void) {
   em_machine machine = made();
-  em_warning all[6];
+  em_warning all[10];
   CHECK(warns(&machine, all) == 0);
   /* an IMS that lets RXT0 through without a ring */
   OK(em_write(&machine, IMS, RXT0));
@@ -298,9 +298,10 @@ static void warns_of_accesses(void) {
   CHECK(warns(&machine, all) == 0);
   OK(em_poke(&machine, RX_RING + 16 + 12, (const uint8_t[]){DD}, 1));
   OK(em_write(&machine, RDT, 3));
-  /* descriptor 1 has DD, and descriptor 2 is all zeros: the rules in their order */
-  CHECK(warns(&machine, all) == 2 && all[0].rule == EM_WARN_DESCRIPTOR_UNWRITTEN && all[1].rule == EM_WARN_STATUS_LEFT);
+  /* descriptor 1 has DD, descriptor 2 is all zeros, and both name a buffer at 0: the rules in their order */
+  CHECK(warns(&machine, all) == 3 && all[0].rule == EM_WARN_DESCRIPTOR_UNWRITTEN && all[1].rule == EM_WARN_STATUS_LEFT);
   CHECK(all[0].index == 2 && all[0].address == RX_RING + 32 && all[1].index == 1 && all[1].address == RX_RING + 16);
+  CHECK(all[2].rule == EM_WARN_BUFFERS_OVERLAP && all[2].index == 1 && all[2].address == RX_RING + 16);
   CHECK(has_line(all[0].text,
     "warning descriptor-unwritten: RDT gives the adapter descriptor 2 at 001020, all zeros, write it first"));
   CHECK(has_line(all[1].text,
@@ -315,7 +316,7 @@ static void warns_of_accesses(void) {
 static void warns_of_a_read(void) {
   em_machine machine = made();
   uint8_t frame[60];
-  em_warning all[6];
+  em_warning all[10];
   em_note event;
   fill(frame, sizeof frame);
   set_receiving(&machine);
@@ -540,7 +541,7 @@ static void refuses_an_empty_handle(void) {
   em_machine machine = EM_NO_MACHINE;
   em_note event = {0, 0, 0, 0, EM_RX_IDLE, 0, 0};
   em_reason reason;
-  em_warning warnings[6];
+  em_warning warnings[10];
   em_entry entry;
   em_fifo_state fifo;
   uint8_t octets[4] = {7, 7, 7, 7};

@@ -144,7 +144,7 @@ static void look_at_events(const em_machine *machine, struct looker *looker) {
   em_range written[2];
   em_change change;
   em_reason reason;
-  em_warning warnings[6];
+  em_warning warnings[10];
   em_difference differences[64];
   OK(em_can_go_back(machine, &count));
   CHECK(looker, count > 10);
@@ -157,7 +157,8 @@ static void look_at_events(const em_machine *machine, struct looker *looker) {
   OK(em_why(machine, &event, EM_OK, FRAME, LENGTH, &reason));
   CHECK(looker, reason.rule == 0);
   OK(em_warnings(machine, warnings, &count));
-  CHECK(looker, count == 0);
+  CHECK(looker, count == 2 * k);
+  if (k) CHECK(looker, warnings[0].rule == EM_WARN_BUFFERS_OVERLAP && warnings[1].rule == EM_WARN_TAIL_PAST_HEAD);
   OK(em_differences(machine, k, differences, 64, &count));
   CHECK(looker, count > 0 && differences[count - 1].kind == EM_WATCH_FRAMES && differences[count - 1].now == 1);
   OK(em_effect(machine, k, text, sizeof text, &length));
@@ -177,12 +178,28 @@ static void look_at_a_copy(const em_machine *machine, struct looker *looker) {
   em_free(&copy);
 }
 
+/* the machine as octets, of which another one is made */
+static void look_at_its_octets(const em_machine *machine, struct looker *looker) {
+  uint8_t *octets = malloc(MEMORY);
+  em_machine loaded = EM_NO_MACHINE;
+  uint32_t value = 0;
+  size_t length = 0;
+  if (octets == NULL) exit(2);
+  OK(em_store(machine, octets, MEMORY, &length));
+  OK(em_load(&loaded, octets, length));
+  OK(em_look(&loaded, RDT, &value));
+  CHECK(looker, value == looker->tail);
+  em_free(&loaded);
+  free(octets);
+}
+
 static void *looks(void *given) {
   struct looker *looker = given;
   for (unsigned round = 0; round < rounds; round++) {
     look_at_registers(looker->machine, looker);
     if (round % 16 == 0) look_at_memory(looker->machine, looker);
     if (round % 16 == 0) look_at_a_copy(looker->machine, looker);
+    if (round % 16 == 0) look_at_its_octets(looker->machine, looker);
     look_at_rings(looker->machine, looker);
     look_at_frames(looker->machine, looker);
     look_at_events(looker->machine, looker);

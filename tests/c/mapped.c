@@ -246,7 +246,7 @@ static void is_not_begun(system_call which, int how, int told) {
   refuse(which, 0, true, how);
   errno = 0;
   REFUSED(em_record_mapped(&m, named("none.em")), EM_FILE);
-  CHECK(errno == told && m.state == (uint32_t)BUDGET << 4);
+  CHECK(errno == told && m.state == (uint32_t)BUDGET << 5);
   refuse_none();
   REFUSED(em_recording_status(&m, &fault), EM_UNRECORDED);
   OK(em_record_mapped(&m, named("none.em")));

@@ -261,6 +261,37 @@ static void is_not_copied(void) {
   }
 }
 
+/* of a machine that is loaded nothing is left either where memory is refused; the octets may be loaded again */
+static void is_not_loaded(void) {
+  static uint8_t octets[2 * MEMORY], again[2 * MEMORY];
+  em_machine machine = made(), loaded = EM_NO_MACHINE;
+  size_t length = 0, more = 0;
+  with_frames(&machine);
+  with_packets(&machine);
+  OK(em_tx_step(&machine, &event));
+  OK(em_tx_step(&machine, &event));
+  OK(em_rx_step(&machine, &event));
+  OK(em_store(&machine, octets, sizeof octets, &length));
+  for (int mode = 0; mode < 2; mode++) {
+    uint32_t code = EM_MEMORY;
+    long n = 0, held = blocks;
+    once = mode == 1;
+    for (; n < 200 && code == EM_MEMORY; n++) {
+      granted = n;
+      code = em_load(&loaded, octets, length);
+      granted = -1;
+      CHECK(code == EM_OK || (code == EM_MEMORY && !loaded.made && blocks == held));
+    }
+    CHECK(code == EM_OK && n > 12);
+    OK(em_store(&loaded, again, sizeof again, &more));
+    CHECK(more == length && memcmp(again, octets, length) == 0);
+    em_free(&loaded);
+    CHECK(blocks == held);
+  }
+  em_free(&machine);
+  CHECK(blocks == 0);
+}
+
 /* an octet of 1 TiB for which memory is refused is not written, whichever of its tables and pages is wanting */
 static void is_not_written_far(void) {
   const uint64_t at = (UINT64_C(1) << 40) - 1;
@@ -289,6 +320,7 @@ static void is_not_written_far(void) {
 static uint32_t says_ring(em_machine *m, uint8_t *out, size_t *n) { return em_ring_text(m, 1, out, MEMORY, n); }
 static uint32_t says_fifo(em_machine *m, uint8_t *out, size_t *n) { return em_fifo_text(m, out, MEMORY, n); }
 static uint32_t says_effect(em_machine *m, uint8_t *out, size_t *n) { return em_effect(m, 0, out, MEMORY, n); }
+static uint32_t stores(em_machine *m, uint8_t *out, size_t *n) { return em_store(m, out, MEMORY, n); }
 
 /* a list, in the place of a text: it fills as many octets of the room */
 static uint32_t tells_differences(em_machine *m, uint8_t *out, size_t *n) {
@@ -306,7 +338,7 @@ static uint32_t tells_differences(em_machine *m, uint8_t *out, size_t *n) {
 /* a look for which memory is refused tells nothing, and leaves all as it was */
 static void tells_no_text(void) {
   uint32_t (*const texts[])(em_machine *, uint8_t *, size_t *) =
-    {says_ring, says_fifo, says_effect, tells_differences};
+    {says_ring, says_fifo, says_effect, stores, tells_differences};
   static uint8_t wanted[MEMORY], told[MEMORY];
   em_machine machine = made();
   with_frames(&machine);
@@ -346,7 +378,7 @@ static void asks_for_none(void) {
   em_descriptor descriptor;
   em_range ranges[2][2];
   em_reason reason;
-  em_warning warnings[6];
+  em_warning warnings[10];
   em_entry entry;
   em_fifo_state fifo;
   em_field_row field;
@@ -429,6 +461,7 @@ int main(void) {
   memset(ram, 9, sizeof ram);
   is_not_made();
   is_not_copied();
+  is_not_loaded();
   is_not_written_far();
   is_refused_memory();
   tells_no_text();

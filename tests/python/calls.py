@@ -6,8 +6,10 @@ import errno
 import inspect
 import mmap
 import os
+import pickle
 import tempfile
 import unittest
+import zlib
 from pathlib import Path
 
 import bunjelav
@@ -80,6 +82,61 @@ class Copies(unittest.TestCase):
         made.attach(ram)
         made.memory[0:4] = b"abcd"
         self.assertEqual(bytes(ram[:8]), b"abcdefgh")
+
+
+def with_sum(octets: bytes, at: int, octet: int) -> bytes:
+    """Another octet at a place, and the check sum that they then have."""
+    made = octets[:at] + bytes([octet]) + octets[at + 1 : -4]
+    return made + zlib.crc32(made).to_bytes(4, "little")
+
+
+class Stored(unittest.TestCase):
+    def running(self) -> Machine:
+        """A machine that has sent two frames, of which one was handed over; one frame waits."""
+        m = receiving()
+        m.tag(5)
+        m.memory[0x2000:0x2010] = BUFFER.to_bytes(8, "little") + bytes([60, 0, 0, 9]) + bytes(4)
+        m.memory[BUFFER : BUFFER + 60] = FRAME
+        m.TDBAL, m.TDLEN, m.TCTL, m.TDT = 0x2000, 128, 2, 1
+        m.tx_step()
+        self.assertEqual(next(m.wire_next()), FRAME)
+        m.TDH = 0
+        m.tx_step()
+        m.arrive(FRAME)
+        return m
+
+    def test_a_loaded_machine_goes_on(self):
+        m = self.running()
+        octets = m.store()
+        self.assertEqual((octets[:12], octets[12:20]), (b"BUNJELAV\1\0\0\0", (1).to_bytes(8, "little")))
+        self.assertEqual(octets[-12:-4], len(octets).to_bytes(8, "little"))
+        self.assertEqual(octets[-4:], zlib.crc32(octets[:-4]).to_bytes(4, "little"))
+        for made in Machine.load(octets), Machine.load(bytearray(octets)), pickle.loads(pickle.dumps(m)):
+            self.assertEqual((made.registers(), made.memory[:]), (m.registers(), m.memory[:]))
+            self.assertEqual((made.store(), made.reach, made.fifo().frames), (octets, 0, 1))
+            self.assertEqual((made.rx_step().kind, made.event().tag, made["RDH"]), ("wrote", 0, 1))
+            self.assertEqual((list(made.wire_next()), made.back(5)), ([FRAME], 1))
+            self.assertEqual((made["RDH"], made.fifo().frames), (0, 1))
+            self.assertRaises(bunjelav.Begun, made.record_to, os.devnull)
+            self.assertRaises(bunjelav.Begun, made.save, os.devnull)
+        self.assertEqual((m.store(), m.fifo().frames), (octets, 1))
+        self.assertEqual(type(made), Machine)
+
+    def test_what_is_refused(self):
+        octets = self.running().store()
+        for wrong, refusal in (
+            (b"", bunjelav.StoredMagic), (b"b" + octets[1:], bunjelav.StoredMagic), (octets[:8], bunjelav.StoredVersion),
+            (octets[:8] + b"\2" + octets[9:], bunjelav.StoredVersion), (octets[:-1], bunjelav.StoredLength),
+            (octets + b"\0", bunjelav.StoredLength), (octets[:50] + b"\x77" + octets[51:], bunjelav.StoredSum),
+            (with_sum(octets, 20, 2), bunjelav.StoredValue), (with_sum(octets, 12, 3), bunjelav.StoredValue),
+        ):
+            self.assertRaises(refusal, Machine.load, wrong)
+        self.assertRaises(TypeError, Machine.load, 5)
+        self.assertRaises(TypeError, Machine.load, "BUNJELAV")
+        m = Machine()
+        m.close()
+        self.assertRaises(bunjelav.NotMade, m.store)
+        self.assertRaises(bunjelav.NotMade, pickle.dumps, m)
 
 
 class Registers(unittest.TestCase):
@@ -226,6 +283,8 @@ class MemoryAndFrames(unittest.TestCase):
         self.assertEqual(m.wire, [FRAME])
         self.assertEqual((list(m.wire_next()), list(m.wire_next())), ([FRAME], []))
         self.assertEqual((m.let_go(), m.wire), (0, [FRAME]))
+        m.let_go_always()
+        self.assertEqual((list(m.wire_next()), m.wire), ([], [FRAME]))
         self.assertEqual((m.last_change("sent")[:2], m.last_change("frames")), ((1, 0), None))
         m.TDT = 2
         self.assertRaises(bunjelav.Extended, m.tx_step)
@@ -365,7 +424,7 @@ class Numbers(unittest.TestCase):
 class Names(unittest.TestCase):
     def test_refusals_have_their_names(self):
         """Each of the library's refusals is an exception of the module, whatever else the module has."""
-        self.assertEqual(len(_tables.REFUSALS), 40)
+        self.assertEqual(len(_tables.REFUSALS), 45)
         for name, number in _tables.REFUSALS.items():
             refusal = getattr(bunjelav, name)
             self.assertTrue(issubclass(refusal, bunjelav.Refused) and issubclass(refusal, Exception), name)
@@ -618,13 +677,13 @@ class Kept(unittest.TestCase):
         ram[5] = 1
         m.sync_in(ram)
         wanted = [
-            f"link up = ok @ calls.py:{at + 1}", *(f"w 000000D0 00000004 = ok @ calls.py:{at + n}" for n in (2, 3, 4)),
-            f"r 000000C0 = 00000004 @ calls.py:{at + 5}", f"poke 0000000000003000 616263 = ok @ calls.py:{at + 6}",
-            f"poke 0000000000003000 09 = ok @ calls.py:{at + 7}", f"poke 0000000000003000 61 = ok @ calls.py:{at + 8}",
-            f"arrive {FRAME.hex().upper()} = dropped disabled @ calls.py:{at + 9}",
-            f"rx = idle @ calls.py:{at + 10}", f"tx = idle @ calls.py:{at + 10}",
-            f"rx = idle @ calls.py:{at + 11}", f"tx = idle @ calls.py:{at + 11}", f"back 2 = back 2 @ calls.py:{at + 12}",
-            f"poke 0000000000000005 01 = ok @ calls.py:{at + 15}",
+            f"link up =ok @calls.py:{at + 1}", *(f"w D0 4 =ok @calls.py:{at + n}" for n in (2, 3, 4)),
+            f"r C0 =00000004 @calls.py:{at + 5}", f"poke 3000 616263 =ok @calls.py:{at + 6}",
+            f"poke 3000 09 =ok @calls.py:{at + 7}", f"poke 3000 61 =ok @calls.py:{at + 8}",
+            f"arrive {FRAME.hex().upper()} =dropped disabled @calls.py:{at + 9}",
+            f"rx =idle @calls.py:{at + 10}", f"tx =idle @calls.py:{at + 10}",
+            f"rx =idle @calls.py:{at + 11}", f"tx =idle @calls.py:{at + 11}", f"back 2 =back 2 @calls.py:{at + 12}",
+            f"poke 5 01 =ok @calls.py:{at + 15}",
         ]
         self.assertEqual(self.kept(), wanted)
         self.assertTrue(m.recording())
@@ -632,13 +691,26 @@ class Kept(unittest.TestCase):
         m.close()
         self.assertEqual(self.kept(), wanted)
 
+    def test_saved_afterwards(self):
+        m = Machine()
+        m.tag(0x1234)
+        m.IMS = 4
+        m.arrive(bytes([0xFF] * 14))
+        m.save(self.path)
+        self.assertEqual(self.kept(), ["w D0 4 =ok @0x1234", "arrive FFFFFFFFFFFF0000000000000000 =dropped down @0x1234"])
+        with self.assertRaises(bunjelav.File) as refused:
+            m.save("/nowhere/saved.em")
+        self.assertEqual(refused.exception.__cause__.errno, errno.ENOENT)
+        m.back()
+        self.assertRaises(bunjelav.Begun, m.save, self.path)
+
     def test_without_places(self):
         m = Machine()
         m.record_to(str(self.path), places=False)
         m.IMS = 1
         m.tag(0x1234)
         m.IMS = 1
-        self.assertEqual(self.kept(), ["w 000000D0 00000001 = ok", "w 000000D0 00000001 = ok @ 0x0000000000001234"])
+        self.assertEqual(self.kept(), ["w D0 1 =ok", "w D0 1 =ok @0x1234"])
 
     def test_another_source(self):
         m = Machine()
@@ -648,7 +720,7 @@ class Kept(unittest.TestCase):
         m.source("", 0)
         m.IMS = 1
         at = line() - 1
-        wanted = ["w 000000D0 00000001 = ok @ driver.c:57", f"w 000000D0 00000001 = ok @ calls.py:{at}"]
+        wanted = ["w D0 1 =ok @driver.c:57", f"w D0 1 =ok @calls.py:{at}"]
         self.assertEqual(self.kept(), wanted)
         self.assertRaises(ValueError, m.source, "driver.c", -1)
 
@@ -662,10 +734,10 @@ class Kept(unittest.TestCase):
         m.IMS = 4
         at = line() - 1
         # ahead of the lines the file is blank
-        self.assertEqual(self.kept(), [f"w 000000D0 00000004 = ok @ calls.py:{at}", " " * len(self.kept()[-1])])
+        self.assertEqual(self.kept(), [f"w D0 4 =ok @calls.py:{at}", " " * len(self.kept()[-1])])
         self.assertTrue(m.recording())
         m.close()
-        self.assertEqual(self.kept(), [f"w 000000D0 00000004 = ok @ calls.py:{at}"])
+        self.assertEqual(self.kept(), [f"w D0 4 =ok @calls.py:{at}"])
 
     def test_what_is_refused(self):
         m = Machine()
@@ -768,10 +840,10 @@ class Explained(unittest.TestCase):
         m.RDT = 7
         m.read("STATUS")
         self.assertEqual([str(one).partition(":")[0] for one in told],
-                         ["warning tail-past-ring", "warning descriptor-unwritten"])
+                         ["warning tail-past-ring", "warning descriptor-unwritten", "warning buffers-overlap"])
         m.warn(None)
         m.RDT = 9
-        self.assertEqual(len(told), 2)
+        self.assertEqual(len(told), 3)
 
     def test_rings_effects_and_the_fifo(self):
         m = receiving()

@@ -63,7 +63,7 @@ class Captures(unittest.TestCase):
         m.run()
         m.pcap_write(self.path)
         lines = self.path.with_suffix(".em").read_text().splitlines()
-        at = next(i for i, line in enumerate(lines, 1) if line.startswith("tx = sent 0 60"))
+        at = next(i for i, line in enumerate(lines, 1) if line.startswith("tx =sent 0 60"))
         self.assertEqual([it.nanoseconds for it in frames_of(self.path)], [1000 * at])
 
     def test_files_that_fail(self):

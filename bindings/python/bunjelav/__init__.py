@@ -10,6 +10,7 @@
     m.memory[0x1000:0x1004] = b"abcd"
     m.back()                       # takes the newest event back
     m.copy()                       # a machine like it, for looking into the past while this one stays
+    m.store()                      # as octets, of which Machine.load makes it again elsewhere
     m.last_change("ICR")           # who changed it last?
     m.why()                        # why was the newest step idle, the frame dropped, the call refused?
     m.warn(print)                  # what the driver gets wrong is printed as it happens
@@ -33,15 +34,15 @@ import operator
 import os
 import sys
 from pathlib import Path  # noqa: F401  (for an example)
-from typing import Any, Callable, Dict, Iterable, Iterator, List, NoReturn, Optional, Union
+from typing import Any, Callable, Dict, Iterable, Iterator, List, Optional, Tuple, Union
 
 from . import _memory, _refusals, _tables
 from ._captures import CapturedFrame, frames_of, must_of_file
 from ._explain import Difference, DriverWarning, Explained, Fifo, Reason, line_of, numbers_of, trouble_of
 from ._memory import Functions, GuestMemory, Region
 from ._native import (
-    DONE, SIZE_T, U32, U64, Register, bits_of, library, must, name_of, number_of, octets_of, offset_of, refused,
-    words_of,
+    DONE, SIZE_T, U32, U64, Register, bits_of, library, long_octets, must, name_of, number_of, octets_of, offset_of,
+    refused, words_of,
 )
 from ._refusals import *  # noqa: F401, F403
 from ._refusals import NoName, Refused
@@ -130,6 +131,30 @@ class Machine(Explained):
         object.__setattr__(made, "_undone", self._undone)
         return made
 
+    def store(self) -> bytes:
+        """The machine as octets, of which `load` makes it again, in another process or on another host: all but its
+        journal and the tag. What is attached stays the caller's, and of a kept run nothing is stored. `pickle` does
+        both.
+
+        >>> m = Machine()
+        >>> m.IMS = 4
+        >>> again = Machine.load(m.store())
+        >>> again["IMS"], again.reach
+        (4, 0)
+        """
+        return long_octets(library.em_store, self._at)
+
+    @classmethod
+    def load(cls, octets: bytes) -> Machine:
+        """The machine that `store` has written down as these octets. Its journal is empty, so that `back` goes back to
+        where it was loaded, and no further; its run can't be kept or saved (Begun). The octets may come from anywhere:
+        what no machine is stored as is refused, as StoredMagic, StoredVersion, StoredLength, StoredSum or StoredValue."""
+        given = octets_of(octets, "a stored machine")
+        made = cls.__new__(cls)
+        made._hold_none()
+        must(library.em_load(made._at, given, len(given)))
+        return made
+
     def close(self) -> None:
         """Frees the machine; each later call raises NotMade."""
         library.em_free(self._at)
@@ -152,8 +177,8 @@ class Machine(Explained):
     def __deepcopy__(self, memo: Dict[int, object]) -> Machine:
         return self.copy()
 
-    def __reduce__(self) -> NoReturn:
-        raise TypeError("a machine can't be pickled")
+    def __reduce__(self) -> Tuple[Callable[[bytes], Machine], Tuple[bytes]]:
+        return type(self).load, (self.store(),)
 
     def _told(self, call: Callable[..., int], room: Any, *words: object) -> int:
         """What a call tells behind its other words."""
@@ -183,11 +208,27 @@ class Machine(Explained):
         >>> m.record_to(path)
         >>> m.IMS = 4
         >>> print(path.read_text().splitlines()[1])  # doctest: +ELLIPSIS
-        w 000000D0 00000004 = ok @ ...:1
+        w D0 4 =ok @...:1
         """
         record = library.em_record_mapped if mapped else library.em_record_to
         must_of_file(record(self._at, os.fsencode(path)), os.fsdecode(path))
         super().__setattr__("_places", {} if places else None)
+
+    def save(self, path: Union[str, bytes, "os.PathLike[str]"]) -> None:
+        """Writes the run so far to a file, where nobody kept it: the events that the journal has, as lines that play to the
+        same machine, with their tags in the place of lines. For a frame that was dropped stands another one of the same
+        length, which is dropped for the same reason. Begun is raised where events were taken back, or where the journal may
+        have dropped some; where the file can't be written, File, from the OSError.
+
+        >>> import tempfile
+        >>> path = Path(tempfile.mkdtemp()) / "core.em"
+        >>> m = Machine()
+        >>> m.IMS = 4
+        >>> m.save(path)
+        >>> print(path.read_text().splitlines()[1])
+        w D0 4 =ok
+        """
+        must_of_file(library.em_save(self._at, os.fsencode(path)), os.fsdecode(path))
 
     def recording(self) -> bool:
         """Whether the run is kept, and all that happened is in the file. Where the file could not be written, OSError says
@@ -213,7 +254,7 @@ class Machine(Explained):
         >>> m.source("driver.c", 57)
         >>> m.IMS = 4
         >>> print(path.read_text().splitlines()[1])
-        w 000000D0 00000004 = ok @ driver.c:57
+        w D0 4 =ok @driver.c:57
         """
         place = number_of(line, 32, "a line")
         super().__setattr__("_source", os.fsencode(file))  # (the library keeps no copy)
@@ -522,6 +563,16 @@ class Machine(Explained):
         0
         """
         return self._told(library.em_let_go, SIZE_T())
+
+    def let_go_always(self, always: bool = True) -> None:
+        """Has `wire_next` let go of frames, in lots, whenever it has handed each frame over; or no longer. No frame goes
+        that was not handed over. A machine then keeps the octets of at most 1,024 frames more than it has events that
+        `back` can take back.
+
+        >>> m = Machine()
+        >>> m.let_go_always()
+        """
+        must(library.em_let_go_always(self._at, bool(always)))
 
     def pcap_write(
         self, path: Union[str, bytes, "os.PathLike[str]"], nanoseconds: Optional[Iterable[int]] = None

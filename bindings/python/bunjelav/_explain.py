@@ -113,7 +113,7 @@ class Explained:
         >>> print(m.warnings()[0])
         warning enabled-before-ring: RCTL.EN is set while RDLEN is 0, set up the ring first
         """
-        told, count = (_tables.Warning * 6)(), SIZE_T()
+        told, count = (_tables.Warning * 10)(), SIZE_T()
         must(library.em_warnings(self._at, told, ctypes.byref(count)))
         return [
             DriverWarning(_tables.WARNINGS.get(one.rule, f"rule {one.rule}"), line_of(one), numbers_of(one))

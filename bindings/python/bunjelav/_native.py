@@ -67,15 +67,20 @@ def refused(number: int, done: int = 0) -> Refused:
     return made
 
 
-def long_text(call: Callable[..., int], *words: object) -> str:
-    """The text that a call puts into room for it, however long it is."""
+def long_octets(call: Callable[..., int], *words: object) -> bytes:
+    """The octets that a call puts into room for them, however many they are."""
     room, length = ctypes.create_string_buffer(4096), SIZE_T()
     number = call(*words, room, len(room), ctypes.byref(length))
     if number == _tables.REFUSALS["Room"]:
-        room = ctypes.create_string_buffer(length.value + 1)
+        room = ctypes.create_string_buffer(length.value + 1)  # (behind a text stands a zero)
         number = call(*words, room, len(room), ctypes.byref(length))
     must(number)
-    return room.raw[: length.value].decode()
+    return ctypes.string_at(room, length.value)
+
+
+def long_text(call: Callable[..., int], *words: object) -> str:
+    """The same of a text."""
+    return long_octets(call, *words).decode()
 
 
 def must(number: int, done: int = 0) -> None:

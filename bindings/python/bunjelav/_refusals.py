@@ -7,7 +7,8 @@ __all__ = [
     "MadeAlready", "Size", "NoFrame", "Room", "NoEvent", "NoChange", "NoWatch", "NoName", "NoRefusal", "NoRing",
     "NoDescriptor", "Busy", "Unread", "Unwritten", "NoRam", "Begun", "Recorded", "File", "Unrecorded", "Width",
     "NotOpen", "OpenAlready", "CaptureEnd", "CaptureMagic", "CaptureVersion", "CaptureCut", "CaptureBlock",
-    "CaptureLink", "CaptureLength", "CaptureInterface", "NoProfile",
+    "CaptureLink", "CaptureLength", "CaptureInterface", "NoProfile", "StoredMagic", "StoredVersion", "StoredLength",
+    "StoredSum", "StoredValue",
 ]
 
 
@@ -263,3 +264,33 @@ class NoProfile(Refused):
     """There is no profile of the number."""
 
     number = 57
+
+
+class StoredMagic(Refused):
+    """The octets of a machine do not begin with BUNJELAV."""
+
+    number = 58
+
+
+class StoredVersion(Refused):
+    """The octets of a machine have a version that is not known."""
+
+    number = 59
+
+
+class StoredLength(Refused):
+    """The octets of a machine are not as many as they say."""
+
+    number = 60
+
+
+class StoredSum(Refused):
+    """The octets of a machine have another check sum than they say."""
+
+    number = 61
+
+
+class StoredValue(Refused):
+    """No machine is stored as these octets."""
+
+    number = 62

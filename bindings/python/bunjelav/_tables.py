@@ -6,7 +6,7 @@ from ctypes import CFUNCTYPE, POINTER, Structure, c_bool, c_char_p, c_int, c_siz
 from ctypes import c_uint64, c_void_p
 
 VERSION = "0.1.0"
-REGISTERS = 360
+REGISTERS = 392
 MOST_SENT = 16384
 MOST_WATCHED = 16
 
@@ -52,6 +52,11 @@ REFUSALS = {
     "CaptureLength": 55,
     "CaptureInterface": 56,
     "NoProfile": 57,
+    "StoredMagic": 58,
+    "StoredVersion": 59,
+    "StoredLength": 60,
+    "StoredSum": 61,
+    "StoredValue": 62,
 }
 
 # by number, what each kind of event is called
@@ -142,6 +147,11 @@ WARNINGS = {
     5: "status left",
     6: "interrupts before rings",
     7: "read again",
+    8: "ring outside memory",
+    9: "buffers overlap",
+    10: "tail past head",
+    11: "head while enabled",
+    12: "written while owned",
 }
 
 # by number, what each thing that can be wrong with a descriptor is called
@@ -379,6 +389,8 @@ CALLS = {
     "em_run_tx": [POINTER(Handle), c_size_t, POINTER(c_size_t)],
     "em_read_sized": [POINTER(Handle), c_uint32, c_uint32, POINTER(c_uint64)],
     "em_write_sized": [POINTER(Handle), c_uint32, c_uint32, c_uint64],
+    "em_store": [POINTER(Handle), c_void_p, c_size_t, POINTER(c_size_t)],
+    "em_load": [POINTER(Handle), c_void_p, c_size_t],
     "em_sync_out": [POINTER(Handle), c_void_p, c_size_t],
     "em_sync_in": [POINTER(Handle), c_void_p, c_size_t, POINTER(c_size_t)],
     "em_sync_out_range": [POINTER(Handle), c_uint64, c_void_p, c_size_t],
@@ -402,6 +414,8 @@ CALLS = {
     "em_record_mapped": [POINTER(Handle), c_char_p],
     "em_recording_status": [POINTER(Handle), POINTER(c_int)],
     "em_source": [POINTER(Handle), c_char_p, c_uint32],
+    "em_save": [POINTER(Handle), c_char_p],
+    "em_let_go_always": [POINTER(Handle), c_bool],
     "em_pcap_write": [POINTER(Handle), c_char_p, POINTER(c_uint64)],
     "em_pcap_open": [POINTER(Pcap), c_char_p],
     "em_strerror": [c_uint32],

@@ -157,7 +157,7 @@ impl fmt::Display for Warning {
 /// The warnings of an event, one after another.
 #[derive(Clone, Debug)]
 pub struct Warnings {
-    pub(crate) told: [raw::Warning; 6],
+    pub(crate) told: [raw::Warning; 10],
     pub(crate) count: usize,
     pub(crate) next: usize,
 }

@@ -44,18 +44,24 @@ fn told<T>(number: u32, told: T) -> Result<T, Refusal> {
     }
 }
 
-/// The text that a call puts into room for it, however long it is.
+/// The octets that a call puts into room for them, however many they are.
 #[cfg(feature = "std")]
-pub(crate) fn text_of<F: Fn(*mut u8, usize, *mut usize) -> u32>(call: F) -> Result<std::string::String, Refusal> {
+fn octets_of<F: Fn(*mut u8, usize, *mut usize) -> u32>(call: F) -> Result<std::vec::Vec<u8>, Refusal> {
     let (mut room, mut length) = (std::vec![0; 4096], 0);
     let mut number = call(room.as_mut_ptr(), room.len(), &mut length);
     if Refusal::of(number) == Refusal::Room {
-        room.resize(length + 1, 0);
+        room.resize(length + 1, 0); // (behind a text stands a zero)
         number = call(room.as_mut_ptr(), room.len(), &mut length);
     }
     told(number, ())?;
     room.truncate(length);
-    Ok(std::string::String::from_utf8_lossy(&room).into_owned())
+    Ok(room)
+}
+
+/// The same of a text.
+#[cfg(feature = "std")]
+pub(crate) fn text_of<F: Fn(*mut u8, usize, *mut usize) -> u32>(call: F) -> Result<std::string::String, Refusal> {
+    Ok(std::string::String::from_utf8_lossy(&octets_of(call)?).into_owned())
 }
 
 /// The same of a call of several events, with how many went well.
@@ -145,6 +151,45 @@ impl Machine {
         told(number, copy)
     }
 
+    /// The machine as octets, of which [`load`](Machine::load) makes it again, in another process or on another host: all
+    /// but its journal and the tag. What is attached stays the caller's, and of a kept run nothing is stored. Refused as
+    /// [`Refusal::Memory`].
+    ///
+    /// ```
+    /// # use bunjelav::{offset_of, Machine, Refusal};
+    /// # fn main() -> Result<(), Refusal> {
+    /// let mut m = Machine::new(65_536, 1 << 20, [0x52, 0x54, 0x00, 0x12, 0x34, 0x56])?;
+    /// m.write(offset_of("IMS")?, 4)?;
+    /// let again = Machine::load(&m.store()?)?;
+    /// assert_eq!((again.look(offset_of("IMS")?)?, again.can_go_back()), (4, 0));
+    /// # Ok(())
+    /// # }
+    /// ```
+    #[cfg(feature = "std")]
+    pub fn store(&self) -> Result<std::vec::Vec<u8>, Refusal> {
+        // SAFETY: a look at this machine.
+        octets_of(|out, room, length| unsafe { raw::em_store(self.handle.get(), out, room, length) })
+    }
+
+    /// Puts these octets into the room for them, and gives how many they are. Refused as [`Refusal::Room`] too.
+    pub fn store_into(&self, out: &mut [u8]) -> Result<usize, Refusal> {
+        let mut length = 0;
+        // SAFETY: a look at this machine, and the length is that of the room.
+        let number = unsafe { raw::em_store(self.handle.get(), out.as_mut_ptr(), out.len(), &mut length) };
+        told(number, length)
+    }
+
+    /// The machine that was stored as these octets. Its journal is empty, so that [`back`](Machine::back) goes back to
+    /// where it was loaded, and no further; its run can't be kept or saved ([`Refusal::Begun`]). The octets may come from
+    /// anywhere: what no machine is stored as is refused as [`Refusal::StoredMagic`], [`Refusal::StoredVersion`],
+    /// [`Refusal::StoredLength`], [`Refusal::StoredSum`] or [`Refusal::StoredValue`], else as [`Refusal::Memory`].
+    pub fn load(octets: &[u8]) -> Result<Machine, Refusal> {
+        let machine = Machine::none();
+        // SAFETY: the handle holds no machine, and the length is that of the octets.
+        let number = unsafe { raw::em_load(machine.handle.get(), octets.as_ptr(), octets.len()) };
+        told(number, machine)
+    }
+
     fn none() -> Machine {
         let handle = raw::Handle { made: false, held: core::ptr::null_mut(), ram: raw::Ram::none(), state: 0 };
         Machine {
@@ -185,7 +230,7 @@ impl Machine {
     /// m.record_to(&path)?;
     /// m.write(offset_of("IMS")?, 4)?;
     /// let text = std::fs::read_to_string(&path).unwrap();
-    /// assert!(text.contains("\nw 000000D0 00000004 = ok @ "));
+    /// assert!(text.contains("\nw D0 4 =ok @"));
     /// # std::fs::remove_file(&path).unwrap();
     /// # Ok(())
     /// # }
@@ -208,6 +253,17 @@ impl Machine {
         told(unsafe { call(self.handle.get(), path.as_ptr()) }, ())?;
         self.places = Some(crate::record::Places::new());
         Ok(())
+    }
+
+    /// Writes the run so far to a file, where nobody kept it: the events that the journal has, as lines that play to the
+    /// same machine, with their tags in the place of lines. For a frame that was dropped stands another one of the same
+    /// length, which is dropped for the same reason. Refused as [`Refusal::Begun`] where events were taken back, or where
+    /// the journal may have dropped some, [`Refusal::Memory`] or [`Refusal::File`]; of the last,
+    /// `std::io::Error::last_os_error` says why.
+    #[cfg(feature = "std")]
+    pub fn save<P: AsRef<std::path::Path>>(&self, path: P) -> Result<(), Refusal> {
+        let path = crate::record::c_path(path.as_ref()).ok_or(Refusal::File)?;
+        told(unsafe { raw::em_save(self.handle.get(), path.as_ptr()) }, ())
     }
 
     /// Whether the run is kept, and all that happened is in the file; where the file could not be written, why. That is
@@ -329,9 +385,10 @@ impl Machine {
         (number == 0 && reason.rule != 0).then(|| Reason::of(reason))
     }
 
-    /// What a driver seems to get wrong by the newest event: a write of a register, or a read of ICR that gave 0.
+    /// What a driver seems to get wrong by the newest event: a write of a register or of
+    /// guest memory, or a read of ICR that gave 0.
     pub fn warnings(&self) -> Result<Warnings, Refusal> {
-        let (mut warnings, mut count) = ([raw::Warning::blank(); 6], 0);
+        let (mut warnings, mut count) = ([raw::Warning::blank(); 10], 0);
         told(unsafe { raw::em_warnings(self.handle.get(), warnings.as_mut_ptr(), &mut count) }, ())?;
         Ok(Warnings { told: warnings, count, next: 0 })
     }
@@ -680,6 +737,14 @@ impl Machine {
         let mut count = 0;
         unsafe { raw::em_let_go(self.handle.get(), &mut count) };
         count
+    }
+
+    /// Has [`wire_next`](Machine::wire_next) let go of frames, in lots, whenever it has handed each frame over; or no
+    /// longer. No frame goes that was not handed over. A machine then keeps the octets of at most 1,024 frames more than it
+    /// has events that [`back`](Machine::back) can take back.
+    pub fn let_go_always(&mut self, always: bool) {
+        // (a machine is made, and no function of its memory runs while it is borrowed)
+        let _made = unsafe { raw::em_let_go_always(self.handle.get(), always) };
     }
 
     /// The frames that were sent, the first one first.

@@ -367,6 +367,8 @@ extern "C" {
     pub(crate) fn em_run_tx(machine: *mut Handle, n: usize, done: *mut usize) -> u32;
     pub(crate) fn em_read_sized(machine: *mut Handle, offset: u32, octets: u32, value: *mut u64) -> u32;
     pub(crate) fn em_write_sized(machine: *mut Handle, offset: u32, octets: u32, value: u64) -> u32;
+    pub(crate) fn em_store(machine: *const Handle, out: *mut u8, room: usize, octets: *mut usize) -> u32;
+    pub(crate) fn em_load(machine: *mut Handle, octets: *const u8, length: usize) -> u32;
     pub(crate) fn em_sync_out(machine: *const Handle, ram: *mut u8, room: usize) -> u32;
     pub(crate) fn em_sync_in(machine: *mut Handle, ram: *const u8, length: usize, writes: *mut usize) -> u32;
     pub(crate) fn em_sync_out_range(machine: *const Handle, addr: u64, out: *mut u8, room: usize) -> u32;
@@ -409,6 +411,8 @@ extern "C" {
     pub(crate) fn em_record_mapped(machine: *mut Handle, path: *const c_char) -> u32;
     pub(crate) fn em_recording_status(machine: *mut Handle, error: *mut c_int) -> u32;
     pub(crate) fn em_source(machine: *mut Handle, file: *const c_char, line: u32) -> u32;
+    pub(crate) fn em_save(machine: *const Handle, path: *const c_char) -> u32;
+    pub(crate) fn em_let_go_always(machine: *mut Handle, always: bool) -> u32;
     pub(crate) fn em_pcap_write(machine: *const Handle, path: *const c_char, nanoseconds: *const u64) -> u32;
     pub(crate) fn em_pcap_open(pcap: *mut Pcap, path: *const c_char) -> u32;
     pub(crate) fn em_strerror(code: u32) -> *const c_char;

@@ -3,7 +3,7 @@
 //! Written by bindings/tables.py, of the crate em_c: change it there, and run that.
 
 /// How many registers there are.
-pub const REGISTERS: usize = 360;
+pub const REGISTERS: usize = 392;
 
 /// Room in which each frame that a machine sends fits.
 pub const MOST_SENT: usize = 16_384;
@@ -112,12 +112,22 @@ pub enum Refusal {
     CaptureInterface,
     /// There is no profile of the number.
     NoProfile,
+    /// The octets of a machine do not begin with BUNJELAV.
+    StoredMagic,
+    /// The octets of a machine have a version that is not known.
+    StoredVersion,
+    /// The octets of a machine are not as many as they say.
+    StoredLength,
+    /// The octets of a machine have another check sum than they say.
+    StoredSum,
+    /// No machine is stored as these octets.
+    StoredValue,
     /// Another number, which this binding does not know.
     Other(u32),
 }
 
 /// Each refusal with its number.
-pub(crate) const REFUSALS: [(Refusal, u32); 40] = [
+pub(crate) const REFUSALS: [(Refusal, u32); 45] = [
     (Refusal::NoRegister, 1),
     (Refusal::Range, 2),
     (Refusal::Length, 3),
@@ -158,6 +168,11 @@ pub(crate) const REFUSALS: [(Refusal, u32); 40] = [
     (Refusal::CaptureLength, 55),
     (Refusal::CaptureInterface, 56),
     (Refusal::NoProfile, 57),
+    (Refusal::StoredMagic, 58),
+    (Refusal::StoredVersion, 59),
+    (Refusal::StoredLength, 60),
+    (Refusal::StoredSum, 61),
+    (Refusal::StoredValue, 62),
 ];
 
 /// By which rule an event did nothing.
@@ -287,12 +302,22 @@ pub enum Warned {
     InterruptsBeforeRings,
     /// A read of ICR gave 0, since an earlier event cleared these causes there, and the frame still waits.
     ReadAgain,
+    /// The adapter owns descriptors of a ring that begins at this address, and leaves guest memory.
+    RingOutsideMemory,
+    /// The adapter is given a receive descriptor, at this address (octets), whose buffer lies over that of another one.
+    BuffersOverlap,
+    /// The tail went past the head, so that the adapter has fewer descriptors than it was given.
+    TailPastHead,
+    /// The head is moved by the driver while EN is set in RCTL or TCTL.
+    HeadWhileEnabled,
+    /// Octets were written that are the adapter's: of this descriptor, at this address (octets), or of its buffer.
+    WrittenWhileOwned,
     /// Another number, which this binding does not know.
     Other(u32),
 }
 
 /// Each warned with its number.
-pub(crate) const WARNINGS: [(Warned, u32); 7] = [
+pub(crate) const WARNINGS: [(Warned, u32); 12] = [
     (Warned::BitsDropped, 1),
     (Warned::TailPastRing, 2),
     (Warned::EnabledBeforeRing, 3),
@@ -300,6 +325,11 @@ pub(crate) const WARNINGS: [(Warned, u32); 7] = [
     (Warned::StatusLeft, 5),
     (Warned::InterruptsBeforeRings, 6),
     (Warned::ReadAgain, 7),
+    (Warned::RingOutsideMemory, 8),
+    (Warned::BuffersOverlap, 9),
+    (Warned::TailPastHead, 10),
+    (Warned::HeadWhileEnabled, 11),
+    (Warned::WrittenWhileOwned, 12),
 ];
 
 /// What is wrong with a descriptor.

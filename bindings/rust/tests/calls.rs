@@ -72,6 +72,58 @@ fn copies() {
 }
 
 #[test]
+fn stores_and_loads() {
+    let mut m = receiving();
+    m.tag(5);
+    for _ in 0..2 {
+        m.arrive(&frame()).unwrap();
+    }
+    m.rx_step().unwrap();
+    let octets = m.store().unwrap();
+    assert_eq!(&octets[..12], b"BUNJELAV\x01\0\0\0");
+    assert_eq!(octets[octets.len() - 12..][..8], (octets.len() as u64).to_le_bytes());
+    let mut room = vec![7; octets.len() + 1];
+    assert_eq!(m.store_into(&mut room[..octets.len() - 1]), Err(Refusal::Room));
+    assert_eq!((room[0], m.store_into(&mut room)), (7, Ok(octets.len())));
+    assert_eq!((&room[..octets.len()], room[octets.len()]), (&octets[..], 7));
+    let mut loaded = Machine::load(&octets).unwrap();
+    assert_eq!((loaded.store().unwrap(), loaded.can_go_back(), loaded.fifo().frames), (octets, 0, 1));
+    assert_eq!(loaded.rx_step().unwrap().kind, Kind::Wrote);
+    assert_eq!((loaded.event(0).unwrap().tag, loaded.look(RDH), m.look(RDH)), (0, Ok(2), Ok(1)));
+    assert_eq!((loaded.back(9), loaded.look(RDH), loaded.fifo().frames), (1, Ok(1), 1));
+    assert_eq!(loaded.save("/dev/null"), Err(Refusal::Begun));
+}
+
+#[test]
+fn loads_no_other_octets() {
+    let octets = made().store().unwrap();
+    let changed = |at: usize| {
+        let mut other = octets.clone();
+        other[at] ^= 1;
+        Machine::load(&other).err()
+    };
+    assert_eq!(Machine::load(&[]).err(), Some(Refusal::StoredMagic));
+    assert_eq!((changed(7), changed(8)), (Some(Refusal::StoredMagic), Some(Refusal::StoredVersion)));
+    assert_eq!((changed(octets.len() - 12), changed(40)), (Some(Refusal::StoredLength), Some(Refusal::StoredSum)));
+    assert_eq!(Machine::load(&octets[..99]).err(), Some(Refusal::StoredLength));
+    assert!(Machine::load(&octets).is_ok());
+    // a new machine has no octet behind its words but counts of 0 and pages of zeros: 3, then 16 of them
+    let lists = octets.len() - 12 - 24 - 16;
+    let mut other = octets[..lists].to_vec();
+    other.extend([0; 24 + 16]);
+    other[lists] = 1; // one gathered octet: where the others then begin nothing is so long
+    other.extend((octets.len() as u64).to_le_bytes());
+    other.extend(sum_of(&other).to_le_bytes());
+    assert_eq!(Machine::load(&other).err(), Some(Refusal::StoredValue));
+}
+
+/// CRC-32, by its definition.
+fn sum_of(octets: &[u8]) -> u32 {
+    let bit = |sum: u32, _| if sum & 1 == 1 { sum >> 1 ^ 0xEDB8_8320 } else { sum >> 1 };
+    !octets.iter().fold(u32::MAX, |sum, &octet| (0..8).fold(sum ^ u32::from(octet), bit))
+}
+
+#[test]
 fn copies_nothing_that_is_attached() {
     let mut ram = vec![0; 65_536];
     let mut m = receiving_over(&mut ram);
@@ -268,6 +320,8 @@ fn sends() {
     assert!(m.wire_next().map(|it| it.to_vec()).eq([frame().to_vec()]));
     assert_eq!((m.wire_next_into(&mut out), m.wire_next().count()), (Ok(None), 0));
     assert_eq!((m.let_go(), m.wire_frame(0, &mut out)), (0, Ok(60)));
+    m.let_go_always(true);
+    assert_eq!((m.wire_next().count(), m.wire_frame(0, &mut out)), (0, Ok(60)));
     // taken back, and sent once more: a new frame
     assert_eq!((m.back(1), m.wire_next().count()), (1, 0));
     assert_eq!(m.run_tx(9), Ok(1));
@@ -313,7 +367,7 @@ fn names() {
     assert_eq!(Kind::Other(99).to_string(), "unknown kind 99");
     assert_eq!(bunjelav::version(), env!("CARGO_PKG_VERSION"));
     assert_eq!((Kind::Undersize.to_string(), Kind::LinkUp.to_string()), ("dropped: undersize".into(), "link up".into()));
-    assert_eq!((REGISTERS, MOST_SENT), (360, 16_384));
+    assert_eq!((REGISTERS, MOST_SENT), (392, 16_384));
 }
 
 #[test]
@@ -370,7 +424,9 @@ fn is_looked_at_by_several_threads_at_once() {
                 scope.spawn(|| {
                     for _ in 0..500 {
                         assert_eq!((m.look(RDT), m.fifo_room(), m.line()), (Ok(tail), 49_092, false));
-                        assert_eq!((m.event(0).unwrap().value, m.warnings().unwrap().count()), (tail, 0));
+                        // (that the descriptor which the tail gives has the others' buffer)
+                        let warned = m.warnings().unwrap().count();
+                        assert_eq!((m.event(0).unwrap().value, warned), (tail, usize::from(tail == 5)));
                     }
                 });
             }
@@ -538,34 +594,49 @@ fn keeps_a_run() {
     assert_eq!(m.write(4, 1), Err(Refusal::NoRegister));
     m.poke(0x3000, b"abc").unwrap();
     assert_eq!((m.sync_in_range(0x3000, b"abd"), m.run_rx(9), m.run_tx(9), m.back(2)), (Ok(1), Ok(0), Ok(0), 2));
-    let told = ["link up = ok", "w 000000D0 00000004 = ok", "r 000000D0 = 00000004", "w 00000004 00000001 = refused NoRegister",
-        "poke 0000000000003000 616263 = ok"];
-    let mut wanted: Vec<_> = (line + 1..).zip(told).map(|(n, told)| format!("{told} @ calls.rs:{n}")).collect();
-    for told in ["poke 0000000000003002 64 = ok", "rx = idle", "tx = idle", "back 2 = back 2"] {
-        wanted.push(format!("{told} @ calls.rs:{}", line + 6));
+    let told = ["link up =ok", "w D0 4 =ok", "r D0 =00000004", "w 4 1 =refused NoRegister",
+        "poke 3000 616263 =ok"];
+    let mut wanted: Vec<_> = (line + 1..).zip(told).map(|(n, told)| format!("{told} @calls.rs:{n}")).collect();
+    for told in ["poke 3002 64 =ok", "rx =idle", "tx =idle", "back 2 =back 2"] {
+        wanted.push(format!("{told} @calls.rs:{}", line + 6));
     }
     assert_eq!(lines_of(&path), wanted);
     // through memory that is lent, and a method of the caller's that hands its own caller's place on
     let mut ram = vec![0; 65_536];
     m.over(&mut ram[..]).poke(0, b"x").unwrap();
-    wanted.push(format!("poke 0000000000000000 78 = ok @ calls.rs:{}", line!() - 1));
+    wanted.push(format!("poke 0 78 =ok @calls.rs:{}", line!() - 1));
     #[track_caller]
     fn written(m: &mut Machine) {
         m.write(IMS, 8).unwrap();
     }
     written(&mut m);
-    wanted.push(format!("w 000000D0 00000008 = ok @ calls.rs:{}", line!() - 1));
+    wanted.push(format!("w D0 8 =ok @calls.rs:{}", line!() - 1));
     // turned off, a tag stands there
     m.tell_places(false);
     m.write(IMS, 1).unwrap();
     m.tag(0x1234);
     m.write(IMS, 1).unwrap();
     m.tell_places(true);
-    wanted.extend(["w 000000D0 00000001 = ok", "w 000000D0 00000001 = ok @ 0x0000000000001234"].map(String::from));
+    wanted.extend(["w D0 1 =ok", "w D0 1 =ok @0x1234"].map(String::from));
     assert_eq!(lines_of(&path), wanted);
     assert!(m.recording().unwrap());
     drop(m);
     assert_eq!(lines_of(&path), wanted);
+    std::fs::remove_file(&path).unwrap();
+}
+
+#[test]
+fn saves_a_run_that_was_not_kept() {
+    let path = std::env::temp_dir().join(format!("bunjelav-{}-saved.em", std::process::id()));
+    let mut m = made();
+    m.tag(0x1234);
+    m.write(IMS, 4).unwrap();
+    m.arrive(&[0xFF; 14]).unwrap();
+    m.save(&path).unwrap();
+    assert_eq!(lines_of(&path), ["w D0 4 =ok @0x1234", "arrive FFFFFFFFFFFF0000000000000000 =dropped down @0x1234"]);
+    assert_eq!(m.save("/nowhere/saved.em"), Err(Refusal::File));
+    assert_eq!(m.back(1), 1);
+    assert_eq!(m.save(&path), Err(Refusal::Begun));
     std::fs::remove_file(&path).unwrap();
 }
 
@@ -578,7 +649,7 @@ fn keeps_a_run_by_a_mapping() {
     assert_eq!(std::io::Error::last_os_error().kind(), std::io::ErrorKind::WouldBlock);
     let line = line!() + 1;
     m.write(IMS, 4).unwrap();
-    let wanted = format!("w 000000D0 00000004 = ok @ calls.rs:{line}");
+    let wanted = format!("w D0 4 =ok @calls.rs:{line}");
     // ahead of the lines the file is blank
     let lines = lines_of(&path);
     assert_eq!((lines.len(), &lines[0], lines[1].trim()), (2, &wanted, ""));

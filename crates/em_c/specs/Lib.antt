@@ -38,3 +38,4 @@ pub mod Pcap
 pub mod SealedFrames
 pub mod Sent
 pub mod Copies
+pub mod Stored

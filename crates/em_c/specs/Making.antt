@@ -5,7 +5,7 @@ use Rattle.em_regs.specs.declared.profile.Profile.{Profile}
 use Rattle.em_regs.specs.declared.profile.Profile.TheVariants.{Table}
 use Rattle.em_step.specs.Cells.{fresh_as, shows}
 use Rattle.em_journal.specs.Budget.{IsBudget}
-use Rattle.em_journal.specs.View.{opening}
+use Rattle.em_journal.specs.View.{View, opening}
 use Rattle.em_trail.specs.Trail.{starting}
 use Rattle.em_c.specs.declared.making.Place.{Place}
 use Rattle.em_c.specs.declared.making.Place.TheVariants.{First, From, As}
@@ -38,14 +38,15 @@ CanLie (As profile base size) = IsMemoryRange base size
 
 -- ---- a machine
 
--- of its profile, after a reset, over a memory of zeros and these words in the EEPROM, with the link down, nothing to take back,
--- the tag 0, and no frame handed over
+-- that has performed nothing: with the tag 0, and so many of its frames handed over
+abbrev pub beginning : View → ℕ → Tagged
+beginning v handed = record { traced = starting v; tag = 0; handed = handed }
+
+-- of its profile, after a reset, over a memory of zeros and these words in the EEPROM, with the link down, nothing to take
+-- back, and no frame handed over
 abbrev pub new_machine : Place → ℕ → List ℕ → Tagged
-new_machine place budget words = record {
-  traced = starting (opening budget (shows (fresh_as (profile_of place) (base_of place) (octets_of place) words)));
-  tag = 0;
-  handed = 0;
-}
+new_machine place budget words =
+    beginning (opening budget (shows (fresh_as (profile_of place) (base_of place) (octets_of place) words))) 0
 
 -- memory that can not lie there is named first, then the budget, and want of memory where neither refuses; nothing else
 -- refuses

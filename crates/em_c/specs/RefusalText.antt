@@ -9,6 +9,7 @@ use Rattle.em_c.specs.declared.refused.Refused.TheVariants.{Width}
 use Rattle.em_c.specs.declared.refused.Refused.TheVariants.{NoCapture, HasCapture, CaptureEnd, CaptureMagic, CaptureVersion}
 use Rattle.em_c.specs.declared.refused.Refused.TheVariants.{CaptureCut, CaptureBlock, CaptureLink, CaptureLength, CaptureInterface}
 use Rattle.em_c.specs.declared.refused.Refused.TheVariants.{NoProfile}
+use Rattle.em_c.specs.declared.refused.Refused.TheVariants.{StoredMagic, StoredVersion, StoredLength, StoredSum, StoredValue}
 
 -- its name, and a sentence
 abbrev pub text_of : Refused → List ℕ
@@ -52,6 +53,11 @@ text_of CaptureLink = codes "CaptureLink: the capture's link type is not Etherne
 text_of CaptureLength = codes "CaptureLength: a captured length is too large"
 text_of CaptureInterface = codes "CaptureInterface: a packet's interface is not described"
 text_of NoProfile = codes "NoProfile: the profiles are 0, the table, and 1, the adapter"
+text_of StoredMagic = codes "StoredMagic: the octets do not begin with BUNJELAV"
+text_of StoredVersion = codes "StoredVersion: the octets' version is not known"
+text_of StoredLength = codes "StoredLength: the octets are not as many as they say"
+text_of StoredSum = codes "StoredSum: the octets have another check sum"
+text_of StoredValue = codes "StoredValue: no machine is stored so"
 
 abbrev pub with_number : ℕ → Option Refused
 with_number code =
@@ -95,6 +101,11 @@ with_number code =
     else if code == 55 then Some CaptureLength
     else if code == 56 then Some CaptureInterface
     else if code == 57 then Some NoProfile
+    else if code == 58 then Some StoredMagic
+    else if code == 59 then Some StoredVersion
+    else if code == 60 then Some StoredLength
+    else if code == 61 then Some StoredSum
+    else if code == 62 then Some StoredValue
     else None
 
 abbrev pub text_or_none : Option Refused → Result (List ℕ) Refused

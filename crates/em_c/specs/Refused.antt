@@ -10,6 +10,7 @@ use Rattle.em_c.specs.declared.refused.Refused.TheVariants.{Busy, Unread, Unwrit
 use Rattle.em_c.specs.declared.refused.Refused.TheVariants.{NoCapture, HasCapture, CaptureEnd, CaptureMagic, CaptureVersion}
 use Rattle.em_c.specs.declared.refused.Refused.TheVariants.{CaptureCut, CaptureBlock, CaptureLink, CaptureLength, CaptureInterface}
 use Rattle.em_c.specs.declared.refused.Refused.TheVariants.{NoProfile}
+use Rattle.em_c.specs.declared.refused.Refused.TheVariants.{StoredMagic, StoredVersion, StoredLength, StoredSum, StoredValue}
 
 -- what refuses an event has the model's number; the others have numbers that no other refusal of the model has
 abbrev pub number_of : Refused → ℕ
@@ -53,6 +54,11 @@ number_of CaptureLink = 54
 number_of CaptureLength = 55
 number_of CaptureInterface = 56
 number_of NoProfile = 57
+number_of StoredMagic = 58
+number_of StoredVersion = 59
+number_of StoredLength = 60
+number_of StoredSum = 61
+number_of StoredValue = 62
 
 abbrev pub of_event : Refusal → Refused
 of_event event.NoRegister = NoRegister

@@ -9,6 +9,8 @@ use Rattle.em_journal.specs.View.{View}
 use Rattle.em_trail.specs.declared.note.Note.{Note}
 use Rattle.em_trail.specs.declared.note.Kind.{Kind}
 use Rattle.em_trail.specs.declared.note.Kind.TheVariants as kind
+use Rattle.em_inspect.specs.declared.extent.Extent.{Extent}
+use Rattle.em_warnings.specs.Owned.{written_while_owned}
 use Rattle.em_warnings.specs.Reads.{read_again}
 use Rattle.em_warnings.specs.Rules.{alone, warnings_of}
 use Rattle.em_warnings.specs.Said.{warning_text}
@@ -22,7 +24,7 @@ use Rattle.em_c.specs.declared.warning.EmWarning.{EmWarning}
 use Rattle.em_c.specs.Told.{address_told}
 use Rattle.em_c.specs.Line.{IsTold, line_of, no_line, without_end}
 
--- ---- which there are: of a write of a register, and of a read of ICR that gave 0
+-- ---- which there are: of a write of a register, of one of guest memory, and of a read of ICR that gave 0
 
 abbrev pub written : View → Option Reg → ℕ → List (Option Warning)
 written v None value = alone None
@@ -39,6 +41,7 @@ reg_of at = if nat_lt at (2 ^ 32) then register_of Adapter at else None
 abbrev pub found_as : View → Kind → ℕ → ℕ → List (Option Warning)
 found_as v kind.Write at value = written v (reg_of at) value
 found_as v kind.Read at value = if value == 0 then read_0 v (reg_of at) else alone None
+found_as v kind.Poke at value = alone (written_while_owned v.present (record { at = at; size = value }))
 found_as v _ at value = alone None
 
 -- by the note of the newest event
@@ -72,6 +75,11 @@ rule_of (warning.DescriptorUnwritten tail index at) = 4
 rule_of (warning.StatusLeft tail index at) = 5
 rule_of (warning.InterruptsBeforeRings causes length) = 6
 rule_of (warning.ReadAgain causes) = 7
+rule_of (warning.RingOutsideMemory tail at) = 8
+rule_of (warning.BuffersOverlap tail index at) = 9
+rule_of (warning.TailPastHead tail index count) = 10
+rule_of (warning.HeadWhileEnabled head control) = 11
+rule_of (warning.WrittenWhileOwned head index at) = 12
 
 abbrev pub numbers_of : Warning → EmWarning
 numbers_of (warning.BitsDropped reg kept written) =
@@ -86,6 +94,14 @@ numbers_of (warning.StatusLeft tail index at) =
 numbers_of (warning.InterruptsBeforeRings causes length) =
     record blank { offset = offset_of length; causes = causes }
 numbers_of (warning.ReadAgain causes) = record blank { offset = offset_of reg.Icr; causes = causes }
+numbers_of (warning.RingOutsideMemory tail at) = record blank { offset = offset_of tail; address = address_told at }
+numbers_of (warning.BuffersOverlap tail index at) =
+    record blank { offset = offset_of tail; index = index; address = address_told at }
+numbers_of (warning.TailPastHead tail index count) =
+    record blank { offset = offset_of tail; index = index; count = count }
+numbers_of (warning.HeadWhileEnabled head control) = record blank { offset = offset_of head }
+numbers_of (warning.WrittenWhileOwned head index at) =
+    record blank { offset = offset_of head; index = index; address = address_told at }
 
 abbrev pub warning_told : Warning → EmWarning
 warning_told w = record (numbers_of w) { rule = rule_of w; text = line_of (without_end (warning_text w)) }
@@ -99,7 +115,7 @@ laid (None ∷ found) at room = laid found at room
 laid (Some w ∷ found) at room = laid found (at + 1) (slice_set room at (warning_told w))
 
 abbrev pub none_told : List EmWarning
-none_told = replicate 6 blank
+none_told = replicate 10 blank
 
 -- the list, and how many
 abbrev pub listed : List (Option Warning) → List EmWarning × ℕ

@@ -1,10 +1,11 @@
 //! Machines are made, and freed.
-ghost use Rattle.std.specs.Prelude.{◌≡◌, ◌↔◌, None, IfOk, IfErr, OnOk};
+ghost use Rattle.std.specs.Prelude.{◌≡◌, ◌↔◌, [], None, IfOk, IfErr, OnOk};
 ghost use Rattle.em_eeprom.specs.Eeprom.{words_of_mac};
 ghost use Rattle.em_step.specs.Cells.{fresh_as};
 ghost use Rattle.em_journal.specs.Budget.{IsBudget};
 ghost use Rattle.em_c.specs.Profile as numbered;
-ghost use Rattle.em_c.specs.Making.{base_of, new_machine, octets_of, profile_of, CanLie, IsRefusedAs, Makes, MakesAs};
+ghost use Rattle.em_c.specs.Making.{base_of, beginning, new_machine, octets_of, profile_of};
+ghost use Rattle.em_c.specs.Making.{CanLie, IsRefusedAs, Makes, MakesAs};
 
 use crate::handle::EmMachine;
 use crate::profile::profile_of;
@@ -213,20 +214,27 @@ fn made(alloc: Global, place: Place, budget: u64, eeprom: Eeprom) -> Result<Box<
         Err((_, JournalRefusal::Budget)) => return Err(Refused::Budget),
         Err((_, JournalRefusal::Memory)) => return Err(Refused::Memory),
     };
+    boxed(alloc, machine, 0)
+}
+
+/// A machine that has performed nothing, in a box, and so many of its frames were handed over.
+pub fn boxed(alloc: Global, machine: Machine, handed: usize) -> Result<Box<Tagged>, Refused>
+    requires { machine.past ≡ [] }
+    ensures ok { IfOk result (λ made. made.value ≡ beginning machine handed) }
+    ensures err { IfErr result (λ refused. refused ≡ Refused.Memory) }
+{
     let Ok(traced) = Traced::new(alloc, machine) else {
         return Err(Refused::Memory);
     };
-    let Ok(made) = Box::new(
-        alloc,
-        Tagged {
-            traced,
-            tag: 0,
-            handed: 0,
-        },
-    ) else {
-        return Err(Refused::Memory);
+    let tagged = Tagged {
+        traced,
+        tag: 0,
+        handed,
     };
-    Ok(made)
+    match Box::new(alloc, tagged) {
+        Ok(made) => Ok(made),
+        Err(_) => Err(Refused::Memory),
+    }
 }
 
 /// A new adapter.

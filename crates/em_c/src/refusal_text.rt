@@ -65,6 +65,11 @@ fn with_number(code: u32) -> Option<Refused>
         55 => Some(Refused::CaptureLength),
         56 => Some(Refused::CaptureInterface),
         57 => Some(Refused::NoProfile),
+        58 => Some(Refused::StoredMagic),
+        59 => Some(Refused::StoredVersion),
+        60 => Some(Refused::StoredLength),
+        61 => Some(Refused::StoredSum),
+        62 => Some(Refused::StoredValue),
         _ => None,
     }
 }
@@ -114,5 +119,10 @@ fn text_of(refused: Refused) -> &'static str
         Refused::CaptureLength => "CaptureLength: a captured length is too large",
         Refused::CaptureInterface => "CaptureInterface: a packet's interface is not described",
         Refused::NoProfile => "NoProfile: the profiles are 0, the table, and 1, the adapter",
+        Refused::StoredMagic => "StoredMagic: the octets do not begin with BUNJELAV",
+        Refused::StoredVersion => "StoredVersion: the octets' version is not known",
+        Refused::StoredLength => "StoredLength: the octets are not as many as they say",
+        Refused::StoredSum => "StoredSum: the octets have another check sum",
+        Refused::StoredValue => "StoredValue: no machine is stored so",
     }
 }

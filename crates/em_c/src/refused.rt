@@ -91,6 +91,16 @@ pub enum Refused {
     CaptureInterface = 56,
     /// There is no profile of the number.
     NoProfile = 57,
+    /// The octets of a machine do not begin with BUNJELAV.
+    StoredMagic = 58,
+    /// The octets of a machine have a version that is not known.
+    StoredVersion = 59,
+    /// The octets of a machine are not as many as they say.
+    StoredLength = 60,
+    /// The octets of a machine have another check sum than they say.
+    StoredSum = 61,
+    /// No machine is stored as these octets.
+    StoredValue = 62,
 }
 
 impl Refused {

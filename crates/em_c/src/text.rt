@@ -1,5 +1,5 @@
 //! Room that C lends for a text.
-ghost use Rattle.std.specs.Prelude.{◌≡◌, ◌+◌, ◌≤◌, ◌++◌, [], Some, length, take, drop};
+ghost use Rattle.std.specs.Prelude.{◌≡◌, ◌+◌, ◌≤◌, ◌++◌, [], Some, length, min, take, drop};
 ghost use Rattle.em_c.specs.Text.{said};
 
 use std::io::{Result, Write};
@@ -18,6 +18,17 @@ pub struct Text {
 }
 
 impl Text {
+    /// Puts octets behind what it says, where there is room for them.
+    #[inline(always)]
+    fn put(&mut self, octets: &[u8])
+        requires { min self.old.used 49_152 + length octets.now ≤ 49_152 }
+        ensures { said self.new ≡ said self.old ++ octets.now }
+    {
+        let at = self.used.min(ROOM);
+        put(&mut self.octets, at, octets);
+        self.used = at + octets.len();
+    }
+
     /// Begins anew.
     pub fn clear(&mut self)
         ensures { said self.new ≡ [] }
@@ -30,12 +41,16 @@ impl Text {
 impl Write for Text {
     ghost contents = { λ text. Some (said text) };
 
+    #[inline(always)]
     fn write(&mut self, octets: &[u8]) -> Result<usize> {
-        let at = self.used.min(ROOM);
-        let count = octets.len().min(ROOM - at);
-        put(&mut self.octets, at, &octets[..count]);
-        self.used = at + count;
-        Ok(count)
+        let room = ROOM - self.used.min(ROOM);
+        if octets.len() <= room {
+            // a word of the code is put there by a store or two
+            self.put(octets);
+            return Ok(octets.len());
+        }
+        self.put(&octets[..room]);
+        Ok(room)
     }
 
     fn flush(&mut self) -> Result<()> {
@@ -44,6 +59,7 @@ impl Write for Text {
 }
 
 /// Puts octets at a place of a room.
+#[inline(always)]
 fn put(room: &mut [u8], at: usize, octets: &[u8])
     requires { at + length octets.now ≤ length room.old }
     ensures { room.new ≡ take at room.old ++ (octets.now ++ drop (at + length octets.now) room.old) }

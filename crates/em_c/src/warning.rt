@@ -18,11 +18,12 @@ use em_warnings::{Warning, write_warning};
 #[repr(C)]
 #[derive(Clone, Copy)]
 pub struct EmWarning {
-    /// Where the descriptor lies.
+    /// Where the descriptor lies, or the ring.
     pub address: u64,
     /// The number of the rule.
     pub rule: u32,
-    /// The offset of the register that was accessed; of causes without a ring that of the ring's length.
+    /// The offset of the register that was accessed; of causes without a ring that of the ring's length, and of octets that are
+    /// the adapter's that of the ring's head.
     pub offset: u32,
     /// The descriptor's index, or what the tail holds.
     pub index: u32,
@@ -90,6 +91,11 @@ fn rule_of(warning: Warning) -> u32
         Warning::StatusLeft { .. } => 5,
         Warning::InterruptsBeforeRings { .. } => 6,
         Warning::ReadAgain { .. } => 7,
+        Warning::RingOutsideMemory { .. } => 8,
+        Warning::BuffersOverlap { .. } => 9,
+        Warning::TailPastHead { .. } => 10,
+        Warning::HeadWhileEnabled { .. } => 11,
+        Warning::WrittenWhileOwned { .. } => 12,
     }
 }
 
@@ -104,12 +110,7 @@ fn numbers_of(warning: Warning) -> EmWarning
             written,
             ..BLANK
         },
-        Warning::TailPastRing { tail, index, count } => EmWarning {
-            offset: tail.offset(),
-            index,
-            count,
-            ..BLANK
-        },
+        Warning::TailPastRing { tail, index, count } => of_tail(tail, index, count),
         Warning::EnabledBeforeRing { control, .. } => EmWarning {
             offset: control.offset(),
             ..BLANK
@@ -118,6 +119,26 @@ fn numbers_of(warning: Warning) -> EmWarning
         Warning::StatusLeft { tail, index, at } => at_descriptor(tail, index, at),
         Warning::InterruptsBeforeRings { causes, length } => of_causes(length, causes),
         Warning::ReadAgain { causes } => of_causes(Reg::Icr, causes),
+        Warning::RingOutsideMemory { tail, at } => at_descriptor(tail, 0, at),
+        Warning::BuffersOverlap { tail, index, at } => at_descriptor(tail, index, at),
+        Warning::TailPastHead { tail, index, count } => of_tail(tail, index, count),
+        Warning::HeadWhileEnabled { head, .. } => EmWarning {
+            offset: head.offset(),
+            ..BLANK
+        },
+        Warning::WrittenWhileOwned { head, index, at } => at_descriptor(head, index, at),
+    }
+}
+
+/// Of a rule that went by a tail.
+fn of_tail(tail: Reg, index: u32, count: u32) -> EmWarning
+    ensures { result ≡ record the.blank { offset = offset_of tail; index = index; count = count } }
+{
+    EmWarning {
+        offset: tail.offset(),
+        index,
+        count,
+        ..BLANK
     }
 }
 

@@ -9,13 +9,14 @@ use crate::handle::EmMachine;
 use crate::refused::{DONE, Refused};
 use crate::tagged::Tagged;
 use crate::warning::{BLANK, EmWarning};
+use em_inspect::Extent;
 use em_journal::Machine;
 use em_regs::{Profile, Reg};
 use em_trail::{Kind, Note};
-use em_warnings::{RULES, Warning, read_again, warnings_of};
+use em_warnings::{RULES, Warning, alone, read_again, warnings_of, written_while_owned};
 
 /// What a driver seems to get wrong by the newest event, and how many such rules there are: rules are asked of a write
-/// of a register, and of a read of ICR that gave 0. Behind them stand warnings of the number 0.
+/// of a register, of one of guest memory, and of a read of ICR that gave 0. Behind them stand warnings of the number 0.
 #[unsafe(no_mangle)]
 pub extern "C" fn em_warnings(
     machine: &mut EmMachine,
@@ -69,9 +70,16 @@ fn found_as(machine: &Machine, note: Note) -> [Option<Warning>; RULES]
             None => [None; RULES],
         },
         Kind::Read if note.value == 0 => match reg_of(note.at) {
-            Some(Reg::Icr) => [read_again(machine), None, None, None, None, None],
+            Some(Reg::Icr) => alone(read_again(machine)),
             _ => [None; RULES],
         },
+        Kind::Poke => {
+            let write = Extent {
+                at: note.at,
+                size: u64::from(note.value),
+            };
+            alone(written_while_owned(machine, write))
+        }
         _ => [None; RULES],
     }
 }

@@ -1,2 +1,7 @@
+-- The laws of a console, by the promises that rest on them. The folders here are the proofs of functions, by the
+-- modules of src of the same names.
+--
+-- ReadingLaws (`read_line`, `take_at_hand`): the first line of what a reader has, from the parts that it gave
+-- ServingLaws (`serve`): each line is answered before the next one is asked for
 pub mod ReadingLaws
 pub mod ServingLaws

@@ -17,6 +17,7 @@ Options:
       --compare      Show the first line whose answer is another than it expects, for no known cause, and end
       --all          With --compare: show the first of each register, count them all, and end
       --all-known    With --compare: show those that differ for a known cause, too
+      --strict       End with status 1 where a line has a warning, too
       --pcap <FILE>  Write the frames that were sent to this file at the end, as a capture
   -x <COMMANDS>      Take what is typed from this file
       --memory <N>   Octets of guest memory, a multiple of 4096; K, M or G may stand behind N [default: 65536]
@@ -32,8 +33,8 @@ Options:
 Bad lines of the script, and of COMMANDS, are told on standard error. --batch and --compare end with a count: how many
 answers agreed and differed, how many lines were bad, how many warnings there are.
 
-The status is 0, or 1 where an answer was another than its line expects or a line was bad, 2 where the command line was
-bad, 3 where the run stopped.
+The status is 0, or 1 where an answer was another than its line expects or a line was bad, or, with --strict, where a line
+up to the place has a warning; 2 where the command line was bad, 3 where the run stopped.
 ";
 
 /// The name and the version.

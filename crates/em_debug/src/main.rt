@@ -2,7 +2,7 @@
 //! types, or that another file has.
 //!
 //!     em_debug [OPTIONS] [--step] [-x COMMANDS] [SCRIPT]
-//!     em_debug [OPTIONS] --batch SCRIPT
+//!     em_debug [OPTIONS] [--strict] --batch SCRIPT
 //!     em_debug [OPTIONS] --compare [--all] SCRIPT
 //!
 //! The options are those of em_bench. The script is played to its end first; `--step` stops before its first line.
@@ -46,7 +46,7 @@ const PROMPT: &[u8] = b"(em) ";
 /// The status of a session that came to its end, and of help.
 const WELL: u8 = 0;
 
-/// The status where an answer was another than its line expects, or a line was bad.
+/// The status where an answer was another than its line expects, or a line was bad; with `--strict` where one has a warning.
 const DIFFERED: u8 = 1;
 
 /// The status of a run that failed.
@@ -192,9 +192,11 @@ fn with_options<R: Files + Input + Print + Eprint + AllocGlobal>(
             };
             let ended = with_capture(rt, &mut served, script, words, prompt);
             let score = served.debugger.score();
+            let is_warned = words.strict && served.debugger.has_warnings();
             // The system takes its memory back when the program ends, all at once.
             mem::forget(served);
             match ended {
+                Ok(found) if is_warned => with_score(rt, score, found, words).max(DIFFERED),
                 Ok(found) => with_score(rt, score, found, words),
                 Err(error) => {
                     let _ = eprintln!(rt; "em_debug: {error}");

@@ -31,6 +31,8 @@ pub struct Words {
     pub all: bool,
     /// Whether it shows those that differ for a known cause, too.
     pub all_known: bool,
+    /// Whether a warning makes the status 1.
+    pub strict: bool,
     /// The file that commands come from.
     pub commands: Option<String>,
     /// The file that the sent frames go to at the end.
@@ -83,6 +85,7 @@ impl Words {
             compare: false,
             all: false,
             all_known: false,
+            strict: false,
             commands: None,
             capture: None,
             asked: Asked::Session,
@@ -137,6 +140,7 @@ impl Words {
             "--compare" => set(&mut self.compare, "--compare")?,
             "--all" => set(&mut self.all, "--all")?,
             "--all-known" => set(&mut self.all_known, "--all-known")?,
+            "--strict" => set(&mut self.strict, "--strict")?,
             "-h" | "--help" => self.asked = Asked::Help,
             "-V" | "--version" => self.asked = Asked::Version,
             "--" => {

@@ -14,6 +14,7 @@ use Rattle.em_debugger.specs.Performing.{IsWhole, KeepsBeside, StaysAt, Unperfor
 use Rattle.em_debugger.specs.Place.{line_here}
 use Rattle.em_debugger.specs.Sending.{first_of}
 use Rattle.em_debugger.specs.Told.{told_of}
+use Rattle.em_debugger.specs.Warnings.{said_behind}
 
 abbrev whole_at : Tape → Tape → Tape
 whole_at old new = record old { whole = line_here old; back = 0; session = new.session }
@@ -50,6 +51,7 @@ keeps_beside old new none = let e = none.rest in record {
   wanted = λ line. ap (told_of line) none.wanted;
   marks = λ line. ap (told_of line) none.marks;
   sent = λ line. ap (λ (d : Debugger). first_of line d.sent.firsts.items) e;
+  warnings = λ k. ap (λ (d : Debugger). said_behind k d.warnings.lines.items) e;
   settings = ap (λ (d : Debugger). d.settings) e;
   asked = ap (λ (d : Debugger). d.asked) e;
   warns = ap (λ (d : Debugger). d.warns) e;

@@ -5,9 +5,11 @@ use Rattle.em_console.specs.declared.session.Flow.{Flow}
 use Rattle.em_console.specs.declared.session.Flow.TheVariants.{Goes, Ends}
 use Rattle.em_looks.specs.Frames.{waiting_text, sent_text}
 use Rattle.em_looks.specs.Views.{register_text, ring_text, memory_text}
+use Rattle.em_text.specs.Words.{words_of}
 use Rattle.em_line.specs.Parts.{said_in}
 use Rattle.em_prompt.specs.BenchLine.{BenchLine}
 use Rattle.em_prompt.specs.Help.{line_of, help_text}
+use Rattle.em_prompt.specs.Nowhere.{nowhere_said}
 use Rattle.em_prompt.specs.Prompt.{Wrong, prompted}
 use Rattle.em_regs.specs.declared.profile.Profile.{Profile}
 use Rattle.em_prompt.specs.Scripted.{bench_in}
@@ -26,9 +28,11 @@ use Rattle.em_debugger.specs.Offers.{ArrivesAll, ArrivesNext, Loads, SavesFrames
 use Rattle.em_debugger.specs.History.{ShowsHistory}
 use Rattle.em_debugger.specs.Moves.{GoesBack, GoesBeforeLine, GoesToEvent, forward_by}
 use Rattle.em_debugger.specs.Next.{TellsNext}
+use Rattle.em_debugger.specs.Nowhere.{TellsNowhere}
 use Rattle.em_debugger.specs.Performing.{AnswersTyped}
 use Rattle.em_debugger.specs.Played.{RunsAll}
 use Rattle.em_debugger.specs.Stops.{AnswersRun}
+use Rattle.em_debugger.specs.Warned.{asked_text, warned_text}
 use Rattle.em_debugger.specs.Who.{AnswersWho, TellsAgain}
 use Rattle.em_debugger.specs.Why.{TellsWhy}
 
@@ -48,6 +52,7 @@ Shows d (shown.Frame None) text = text ≡ waiting_text d.tape.session.machine.p
 Shows d (shown.Frame (Some index)) text = text ≡ sent_text d.tape.session.machine.present.wire index
 Shows d (shown.Memory addr len) text = text ≡ memory_text d.tape.session.machine.present addr len
 Shows d shown.Why text = TellsWhy d text
+Shows d shown.Warnings text = text ≡ warned_text d
 Shows d (shown.Help (Some command)) text = text ≡ line_of command
 Shows d (shown.Help None) text = text ≡ help_text
 
@@ -66,6 +71,7 @@ ObeysAlone old new (typed.goto event) text = GoesToEvent event old new text
 ObeysAlone old new (typed.who watch which) text = AnswersWho old new watch which text
 ObeysAlone old new typed.who_again text = TellsAgain old new old.asked text
 ObeysAlone old new (typed.warnings on) text = (new ≡ record old { warns = on }) × (text ≡ warnings_are on)
+ObeysAlone old new (typed.warnings_of rule) text = (new ≡ old) × (text ≡ asked_text old rule)
 ObeysAlone old new (typed.auto on) text = (new ≡ record old { engines = steps_of on }) × (text ≡ engines_are on)
 ObeysAlone old new typed.arrive_next text = ArrivesNext old new text
 ObeysAlone old new typed.arrive_all text = ArrivesAll old new text
@@ -102,12 +108,20 @@ AnswersPrompted did old new (Err wrong) flow text =
 abbrev pub asking : Profile → List ℕ → Option BenchLine
 asking profile typed = bench_in (prompted profile (said_in typed))
 
+-- its answer, and behind it that it accesses no register, if it does not and is answered all the same
+pub record AnswersBench (old new : Debugger) (bench : BenchLine) (typed text : List ℕ) : Type 0 where
+  pub answer : List ℕ
+  pub note : List ℕ
+  pub answered : AnswersTyped old new bench typed answer
+  pub noted : TellsNowhere (nowhere_said old.settings.profile (words_of (said_in typed))) note
+  pub told : text ≡ answer ++ note
+
 -- such a line is performed; what else is typed is obeyed, or it is said what is wrong with it
 abbrev pub AnswersAsked : (Option Deed → Type 0) → Debugger → Debugger → List ℕ → Option BenchLine → Flow → List ℕ
     → Type 0
 AnswersAsked did old new typed None flow text = AnswersPrompted did old new (prompted old.settings.profile typed) flow text
 AnswersAsked did old new typed (Some bench) flow text =
-    (flow ≡ Goes) × (did None × AnswersTyped old new bench typed text)
+    (flow ≡ Goes) × (did None × AnswersBench old new bench typed text)
 
 -- a line was typed: one that is too long is none
 pub data Answers (did : Option Deed → Type 0) (old new : Debugger) (typed : List ℕ) (flow : Flow) (text : List ℕ)

@@ -25,6 +25,7 @@ pub record Begins (given : Settings) (d : Debugger) : Type 0 where
   pub tape : d.tape ≡ empty_tape (bare (new_machine given))
   pub told : texts d.told.answers.items ≡ []
   pub came : d.came.outcomes.items ≡ []
+  pub warnings : d.warnings.lines.items ≡ []
   pub asked : d.asked ≡ None
   pub warns : d.warns ≡ true
   pub wanted : texts d.wanted.answers.items ≡ []
@@ -39,6 +40,7 @@ pub record KeepsSome (old new : Debugger) : Type 0 where
   pub settings : new.settings ≡ old.settings
   pub told : new.told ≡ old.told
   pub came : new.came ≡ old.came
+  pub warnings : new.warnings ≡ old.warnings
   pub asked : new.asked ≡ old.asked
   pub warns : new.warns ≡ old.warns
   pub score : new.score ≡ old.score

@@ -27,6 +27,42 @@ by_steps = codes "here engines make steps by rx and tx alone"
 abbrev pub by_arrivals : List ℕ
 by_arrivals = codes "here frames arrive by arrive alone"
 
+-- of a counter
+abbrev pub counter_departure : Reg → List ℕ
+counter_departure reg.Gptc = by_steps
+counter_departure reg.Gotcl = by_steps
+counter_departure reg.Gotch = by_steps
+counter_departure reg.Ptc64 = by_steps
+counter_departure reg.Ptc127 = by_steps
+counter_departure reg.Ptc255 = by_steps
+counter_departure reg.Ptc511 = by_steps
+counter_departure reg.Ptc1023 = by_steps
+counter_departure reg.Ptc1522 = by_steps
+counter_departure reg.Mptc = by_steps
+counter_departure reg.Bptc = by_steps
+counter_departure reg.Totl = by_steps
+counter_departure reg.Toth = by_steps
+counter_departure reg.Tpt = by_steps
+counter_departure reg.Mpc = by_arrivals
+counter_departure reg.Prc64 = by_arrivals
+counter_departure reg.Prc127 = by_arrivals
+counter_departure reg.Prc255 = by_arrivals
+counter_departure reg.Prc511 = by_arrivals
+counter_departure reg.Prc1023 = by_arrivals
+counter_departure reg.Prc1522 = by_arrivals
+counter_departure reg.Gprc = by_arrivals
+counter_departure reg.Bprc = by_arrivals
+counter_departure reg.Mprc = by_arrivals
+counter_departure reg.Gorcl = by_arrivals
+counter_departure reg.Gorch = by_arrivals
+counter_departure reg.Rnbc = by_arrivals
+counter_departure reg.Ruc = by_arrivals
+counter_departure reg.Roc = by_arrivals
+counter_departure reg.Torl = by_arrivals
+counter_departure reg.Torh = by_arrivals
+counter_departure reg.Tpr = by_arrivals
+counter_departure _ = []
+
 abbrev pub departure_of : Reg → List ℕ
 departure_of reg.Ctrl = after_reset
 departure_of reg.Ledctl = after_reset
@@ -55,33 +91,7 @@ departure_of reg.Icr = codes "here engines make steps by rx and tx alone, and no
 departure_of reg.Ims = codes "bits 31 to 17 are 0 here, as in the manual; QEMU stores them"
 departure_of reg.Rdh = by_steps
 departure_of reg.Tdh = by_steps
-departure_of reg.Gptc = by_steps
-departure_of reg.Gotcl = by_steps
-departure_of reg.Gotch = by_steps
-departure_of reg.Ptc64 = by_steps
-departure_of reg.Ptc127 = by_steps
-departure_of reg.Ptc255 = by_steps
-departure_of reg.Ptc511 = by_steps
-departure_of reg.Ptc1023 = by_steps
-departure_of reg.Ptc1522 = by_steps
-departure_of reg.Mptc = by_steps
-departure_of reg.Bptc = by_steps
-departure_of reg.Mpc = by_arrivals
-departure_of reg.Prc64 = by_arrivals
-departure_of reg.Prc127 = by_arrivals
-departure_of reg.Prc255 = by_arrivals
-departure_of reg.Prc511 = by_arrivals
-departure_of reg.Prc1023 = by_arrivals
-departure_of reg.Prc1522 = by_arrivals
-departure_of reg.Gprc = by_arrivals
-departure_of reg.Bprc = by_arrivals
-departure_of reg.Mprc = by_arrivals
-departure_of reg.Gorcl = by_arrivals
-departure_of reg.Gorch = by_arrivals
-departure_of reg.Rnbc = by_arrivals
-departure_of reg.Ruc = by_arrivals
-departure_of reg.Roc = by_arrivals
-departure_of _ = []
+departure_of reg = counter_departure reg
 
 abbrev pub known_text : List ℕ → List ℕ
 known_text known = if length known == 0 then [] else codes "known: " ++ (known ++ codes "\n")

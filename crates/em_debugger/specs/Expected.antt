@@ -1,6 +1,8 @@
 -- The answers that lines expect, and how many were given so.
-use Rattle.std.specs.Prelude.{◌≡◌, ℕ, ◌+◌, ◌&&◌, ◌||◌, not, Bool, true, false, if◌then◌else◌, List, [], ◌∷◌, Option, None, unwrap_or}
+use Rattle.std.specs.Prelude.{ℕ, ◌+◌, ◌&&◌, not, Bool, true, false, if◌then◌else◌, List, [], ◌∷◌, Option, None, unwrap_or, Result}
 use Rattle.em_step.specs.Event.{Event}
+use Rattle.em_step.specs.declared.event.Answer.{Answer}
+use Rattle.em_step.specs.declared.refusal.Refusal.{Refusal}
 use Rattle.em_line.specs.Parts.{expected_in}
 use Rattle.em_script.specs.Outcome.{event_came}
 use Rattle.em_tape.specs.Texts.{texts}
@@ -35,18 +37,9 @@ differs event wanted answer = is_wanted wanted && not (agrees_of event wanted an
 abbrev pub access_of : ℕ → Debugger → Option Event
 access_of line d = access_said line d.tape
 
--- the rules are asked of a line
-abbrev pub asks_rules : ℕ → Debugger → Bool
-asks_rules line d = d.warns && is_asked (event_came (came line d))
-
--- the answer that a line expects, or a rule, asks what the line accesses
-abbrev pub asks_access : ℕ → Debugger → Bool
-asks_access line d = is_wanted (wanted line d) || asks_rules line d
-
--- it is that, where one of them asks
-pub record IsAskedAccess (line : ℕ) (d : Debugger) (access : Option Event) : Type 0 where
-  pub wants : is_wanted (wanted line d) ≡ true → access ≡ access_of line d
-  pub rules : asks_rules line d ≡ true → access ≡ access_of line d
+-- the rules are asked of a line that came to this
+abbrev pub asks_rules : Debugger → Option (Result Answer Refusal) → Bool
+asks_rules d came = d.warns && is_asked came
 
 -- the line was answered otherwise than it expects
 abbrev pub answers_otherwise : Debugger → ℕ → Bool
@@ -61,10 +54,14 @@ with_answer score false = record score { agreed = counted (score.agreed + 1) }
 abbrev pub with_warnings : Score → ℕ → Score
 with_warnings score more = record score { warnings = counted (score.warnings + more) }
 
--- what the rules say of a line, if that is to be said and they are asked
+-- what the rules say of the access of a line that came to this, if that is to be said and they are asked
+abbrev pub warned_by : Debugger → ℕ → Option (Result Answer Refusal) → Option (List (Option Warning))
+warned_by d line came =
+    if asks_rules d came then found_of d.tape.session.machine (access_of line d) came else None
+
+-- and so of a line, as it came out
 abbrev pub warned_behind : Debugger → ℕ → Option (List (Option Warning))
-warned_behind d line =
-    if d.warns then found_of d.tape.session.machine (access_of line d) (event_came (came line d)) else None
+warned_behind d line = warned_by d line (event_came (came line d))
 
 -- the answer to a line is counted, where one is expected
 abbrev pub scored_answer : Debugger → ℕ → Score

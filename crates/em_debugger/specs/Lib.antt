@@ -19,6 +19,7 @@ pub mod Listing
 pub mod Lost
 pub mod Moves
 pub mod Next
+pub mod Nowhere
 pub mod Offers
 pub mod Performing
 pub mod Place
@@ -28,6 +29,8 @@ pub mod Search
 pub mod Sending
 pub mod Stops
 pub mod Told
+pub mod Warned
+pub mod Warnings
 pub mod Marks
 pub mod Who
 pub mod Why

@@ -26,6 +26,7 @@ use Rattle.em_debugger.specs.Place.{line_here}
 use Rattle.em_debugger.specs.Reading.{event_said}
 use Rattle.em_debugger.specs.Sending.{KeepsFirst, StaysSent, first_sent}
 use Rattle.em_debugger.specs.Told.{KeepsText, Notes, Stay}
+use Rattle.em_debugger.specs.Warnings.{SaysSo, StaySaid}
 
 -- the tape with the line at its place whole
 pub record IsWhole (old whole : Tape) : Type 0 where
@@ -33,7 +34,7 @@ pub record IsWhole (old whole : Tape) : Type 0 where
   pub here : old.back ≡ 0 → whole ≡ old
 
 -- the line behind the place was performed, and answered as em_bench answers it; what is kept of the answer was noted,
--- and how the line came out
+-- how the line came out, and what the rules said of it
 pub record Performs (old new : Debugger) (performed : Performed) : Type 0 where
   pub number : performed.line ≡ line_here old.tape + 1
   pub before : Tape
@@ -49,6 +50,7 @@ pub record Performs (old new : Debugger) (performed : Performed) : Type 0 where
   pub sent : KeepsFirst performed.line (first_sent (length before.session.machine.present.wire)
       (length new.tape.session.machine.present.wire)) old.sent.firsts.items new.sent.firsts.items
   pub warned : new.warned ≡ warned_behind new performed.line
+  pub warnings : SaysSo (line_here old.tape) new.warned old.warnings.lines.items new.warnings.lines.items
   pub score : new.score ≡ scored (record new { score = old.score }) performed.line
   pub engines : new.engines ≡ old.engines
   pub offered : new.offered ≡ old.offered
@@ -66,13 +68,14 @@ abbrev pub IsUnadded : BenchFault → Type 0
 IsUnadded why = (why ≡ fault.TooLarge) ⊎ (why ≡ fault.Memory)
 
 -- all but the tape is as it was, and beside each line stands what was told of it, how it came out, what it expects, its
--- time, and what it sent
+-- time, what it sent, and its warnings
 pub record KeepsBeside (old new : Debugger) : Type 0 where
   pub told : (line : ℕ) → told line new ≡ told line old
   pub came : (line : ℕ) → came line new ≡ came line old
   pub wanted : (line : ℕ) → wanted line new ≡ wanted line old
   pub marks : Stay (texts old.marks.answers.items) (texts new.marks.answers.items)
   pub sent : StaysSent old.sent.firsts.items new.sent.firsts.items
+  pub warnings : StaySaid old.warnings.lines.items new.warnings.lines.items
   pub settings : new.settings ≡ old.settings
   pub asked : new.asked ≡ old.asked
   pub warns : new.warns ≡ old.warns
@@ -139,7 +142,7 @@ abbrev pub kept : Tape → ℕ → ℕ
 kept tape dropped = length tape.lines - dropped
 
 -- the lines ahead of the place were dropped, so many of them, with what was told of them, how they came out, what they
--- expect, their marks, what they sent, and what was asked
+-- expect, their marks, what they sent, their warnings, and what was asked
 pub record Cuts (old new : Debugger) (dropped : ℕ) : Type 0 where
   pub tape : IsCut old.tape new.tape dropped
   pub told : texts new.told.answers.items ≡ take (kept old.tape dropped) (texts old.told.answers.items)
@@ -150,6 +153,7 @@ pub record Cuts (old new : Debugger) (dropped : ℕ) : Type 0 where
   pub wanted : texts new.wanted.answers.items ≡ take (kept old.tape dropped) (texts old.wanted.answers.items)
   pub marks : texts new.marks.answers.items ≡ take (kept old.tape dropped) (texts old.marks.answers.items)
   pub sent : new.sent.firsts.items ≡ take (kept old.tape dropped) old.sent.firsts.items
+  pub warnings : new.warnings.lines.items ≡ take (kept old.tape dropped) old.warnings.lines.items
   pub score : new.score ≡ old.score
   pub engines : new.engines ≡ old.engines
   pub offered : new.offered ≡ old.offered

@@ -1,5 +1,5 @@
 -- Lines that are played without their answers, and what is said of them all.
-use Rattle.std.specs.Prelude.{◌≡◌, ℕ, ◌-◌, nat_lt, Bool, true, false, if◌then◌else◌}
+use Rattle.std.specs.Prelude.{◌≡◌, ℕ, ◌+◌, ◌-◌, nat_lt, Bool, true, false, if◌then◌else◌}
 use Rattle.std.specs.Prelude.{slice_get}
 use Rattle.std.specs.Prelude.{List, [], ◌++◌, codes, length, filter, Option, Some, None}
 use Rattle.em_console.specs.Turns.{Leads}
@@ -13,6 +13,8 @@ use Rattle.em_debugger.specs.declared.played.Played.{Played}
 use Rattle.em_debugger.specs.Counted.{counted}
 use Rattle.em_debugger.specs.Debugger.{told}
 use Rattle.em_debugger.specs.Performing.{PerformsNext, IsLast, IsUnadded, Unperformed, fault_text}
+use Rattle.em_debugger.specs.Place.{line_here}
+use Rattle.em_debugger.specs.Warned.{summary_text}
 
 -- a line that was refused, or is none
 abbrev pub is_wrong_outcome : Outcome → Bool
@@ -78,9 +80,15 @@ abbrev pub ended_text : Option BenchFault → List ℕ
 ended_text None = []
 ended_text (Some fault) = fault_text fault
 
--- the lines ahead of the place were performed, and it is said how many, which were refused, and why the rest was not
+-- what is said of lines that were played: how many they were, and which were refused; how many warnings they have, from
+-- behind the one place up to the other; and why the rest was not
+abbrev pub ran_text : Debugger → Debugger → Played → Option BenchFault → List ℕ
+ran_text old new played fault =
+    played_text new played ++ (summary_text new (line_here old.tape + 1) (line_here new.tape + 1) ++ ended_text fault)
+
+-- the lines ahead of the place were performed, and that is said of them
 pub record RunsAll (old new : Debugger) (text : List ℕ) : Type 0 where
   pub played : Played
   pub fault : Option BenchFault
   pub plays : PlaysAll old new played fault
-  pub told : text ≡ played_text new played ++ ended_text fault
+  pub told : text ≡ ran_text old new played fault

@@ -1,5 +1,5 @@
 -- What the lines of a tape say.
-use Rattle.std.specs.Prelude.{ℕ, if◌then◌else◌, Option, Some, None, Result}
+use Rattle.std.specs.Prelude.{ℕ, Bool, if◌then◌else◌, Option, Some, None, Result}
 use Rattle.em_step.specs.Event.{Event}
 use Rattle.em_step.specs.declared.event.Answer.{Answer}
 use Rattle.em_step.specs.declared.refusal.Refusal.{Refusal}
@@ -25,9 +25,13 @@ command_said line tape = command_in (parsed_line (text_of line tape))
 abbrev pub event_said : ℕ → Tape → Option Event
 event_said line tape = event_in (parsed_line (said_in (text_of line tape)))
 
+-- the event, where somebody asks for it
+abbrev pub event_where : Bool → Option Event → Option Event
+event_where asked event = if asked then event else None
+
 -- an event that came to this, where it did nothing; of another nobody asks which it was
 abbrev pub undone_event : Option (Result Answer Refusal) → Option Event → Option Event
-undone_event came event = if is_undone came then event else None
+undone_event came event = event_where (is_undone came) event
 
 -- the event of a line that was read, if it was
 abbrev pub event_read : Option Line → Option Event

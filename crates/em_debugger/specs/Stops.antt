@@ -8,6 +8,7 @@ use Rattle.em_looks.specs.Numbers.{counted_text, number_text, short_text}
 use Rattle.em_looks.specs.Sights.{watch_text, IsWatch}
 use Rattle.em_prompt.specs.Until as until
 use Rattle.em_prompt.specs.Until.{Until}
+use Rattle.em_warnings.specs.Warnings.{found_count}
 use Rattle.em_debugger.specs.declared.debugger.Debugger.{Debugger}
 use Rattle.em_debugger.specs.declared.performing.Performed.{Performed}
 use Rattle.em_debugger.specs.declared.stops.Stop.{Stop}
@@ -42,6 +43,7 @@ abbrev pub EndsSince : Stop → ℕ → Debugger → Performed → Type 0
 EndsSince stop.Refused event d performed = is_refused performed.outcome ≡ true
 EndsSince stop.Dropped event d performed = LosesSo performed.outcome (held_of performed.line d.tape) d.tape true
 EndsSince stop.Differs event d performed = answers_otherwise d performed.line ≡ true
+EndsSince stop.Warning event d performed = 0 < found_count d.warned
 EndsSince (stop.Line n) event d performed = ⊥
 EndsSince (stop.Changes watch) event d performed = ChangedSince watch event d
 
@@ -81,6 +83,7 @@ abbrev pub missed_text : Stop → List ℕ
 missed_text stop.Refused = codes "none was refused\n"
 missed_text stop.Dropped = codes "none was dropped\n"
 missed_text stop.Differs = codes "no answer differs\n"
+missed_text stop.Warning = codes "no line has a warning\n"
 missed_text (stop.Line n) = number_text (codes "no line ") n (codes " lies ahead\n")
 missed_text (stop.Changes watch) = unchanged_text watch
 
@@ -136,6 +139,7 @@ abbrev pub IsStop : Until → Stop → Type 0
 IsStop until.refused s = s ≡ stop.Refused
 IsStop until.dropped s = s ≡ stop.Dropped
 IsStop until.differs s = s ≡ stop.Differs
+IsStop until.warning s = s ≡ stop.Warning
 IsStop (until.line line) s = s ≡ stop.Line line
 IsStop (until.changes typed) s = (watch : Watch) × IsWatch typed watch × (s ≡ stop.Changes watch)
 

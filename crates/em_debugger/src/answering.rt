@@ -7,10 +7,12 @@ ghost use Rattle.em_prompt.specs.Prompt.{plain_wrong, prompted};
 ghost use Rattle.em_prompt.specs.Typed.{plain};
 ghost use Rattle.em_text.specs.Writer.{Writes};
 ghost use Rattle.em_debugger.specs.Disk.{Did};
-ghost use Rattle.em_debugger.specs.Answering.{Answers, AnswersPrompted, Obeys, Shows, TellsWrong, asking, flow_of, warnings_are};
+ghost use Rattle.em_debugger.specs.Answering.{Answers, AnswersBench, AnswersPrompted, Obeys, Shows, TellsWrong};
+ghost use Rattle.em_debugger.specs.Answering.{asking, flow_of, warnings_are};
 
 use crate::debugger::Debugger;
 use crate::disk::Disk;
+use crate::nowhere::tell_nowhere;
 use em_console::Flow;
 use em_line::parts_of;
 use em_looks::{show_memory, show_register, show_ring, show_sent, show_waiting};
@@ -43,11 +45,26 @@ impl Debugger {
         }
         match asking(self.settings.profile, line) {
             Some(bench) => {
-                self.perform_typed(writer, bench, line)?;
+                self.answer_bench(writer, bench, line)?;
                 Ok(Flow::Goes)
             }
             None => self.answer_prompted(writer, disk, line),
         }
+    }
+
+    /// Answers a line of em_bench's that was typed in these words, and says where it accesses no register.
+    fn answer_bench<W: Write>(
+        &mut self,
+        writer: &mut W,
+        bench: BenchLine<'_>,
+        line: &[u8],
+    ) -> Result<(), WriteFailed>
+        ensures ok { OnOk result ((text : List ℕ) × Appends (W.contents writer.old) (W.contents writer.new) text
+            × AnswersBench self.old self.new (plain_line bench.entry) line.now text) }
+    {
+        let profile = self.settings.profile;
+        self.perform_typed(writer, bench, line)?;
+        tell_nowhere(self.alloc, profile, writer, parts_of(line).said)
     }
 
     /// Does what a line says, or says what is wrong with it.
@@ -98,6 +115,7 @@ impl Debugger {
             Typed::Save(name) => self.save(writer, disk, name, false),
             Typed::SaveOver(name) => self.save(writer, disk, name, true),
             Typed::Warnings(on) => self.warn(writer, on),
+            Typed::WarningsOf(rule) => self.list_warnings_of(writer, rule),
             Typed::Auto(on) => self.switch_engines(writer, on),
             Typed::ArriveNext => self.arrive_next(writer),
             Typed::ArriveAll => self.arrive_all(writer),
@@ -124,6 +142,7 @@ impl Debugger {
             Shown::Frame(Some(index)) => show_sent(writer, machine, index),
             Shown::Memory(addr, len) => show_memory(writer, machine, addr, len),
             Shown::Why => self.why(writer),
+            Shown::Warnings => self.list_warnings(writer),
             Shown::Help(Some(command)) => write_help(writer, command),
             Shown::Help(None) => write_whole_help(writer),
         }

@@ -10,6 +10,7 @@ use crate::came::Came;
 use crate::expected::Score;
 use crate::sending::Sent;
 use crate::told::Told;
+use crate::warnings::Warnings;
 use crate::who::Asked;
 use em_journal::{Settings, SettingsRefusal};
 use em_regs::Profile;
@@ -32,6 +33,8 @@ pub struct Debugger {
     pub(crate) answer: Vec<u8>,
     // what the rules say of it that tell what drivers get wrong, if they are asked
     pub(crate) warned: Found,
+    // what they said of the lines
+    pub(crate) warnings: Warnings,
     // what was asked for last
     pub(crate) asked: Option<Asked>,
     // whether it is said what drivers get wrong
@@ -65,6 +68,7 @@ impl Debugger {
                 came: Came::new(alloc),
                 answer: Vec::new(alloc),
                 warned: None,
+                warnings: Warnings::new(alloc),
                 asked: None,
                 warns: true,
                 wanted: Told::new(alloc),

@@ -1,7 +1,7 @@
 //! What the model knowingly does otherwise than a real adapter or QEMU's, by the register that shows it.
 ghost use Rattle.std.specs.Prelude.{◌≡◌};
 ghost use Rattle.em_text.specs.Writer.{Writes};
-ghost use Rattle.em_debugger.specs.Departures.{departure_of, departure_text};
+ghost use Rattle.em_debugger.specs.Departures.{counter_departure, departure_of, departure_text};
 
 use em_regs::Reg;
 use em_text::{WriteFailed, write_pieces};
@@ -32,9 +32,17 @@ fn departure(reg: Reg) -> &'static [u8]
         Reg::Ics => b"it reads as 0 here",
         Reg::Icr => b"here engines make steps by rx and tx alone, and no PHY raises a cause",
         Reg::Ims => b"bits 31 to 17 are 0 here, as in the manual; QEMU stores them",
-        Reg::Rdh
-        | Reg::Tdh
-        | Reg::Gptc
+        Reg::Rdh | Reg::Tdh => b"here engines make steps by rx and tx alone",
+        _ => counter_departure(reg),
+    }
+}
+
+/// The same of a counter.
+fn counter_departure(reg: Reg) -> &'static [u8]
+    ensures { result.now ≡ counter_departure reg }
+{
+    match reg {
+        Reg::Gptc
         | Reg::Gotcl
         | Reg::Gotch
         | Reg::Ptc64
@@ -44,7 +52,10 @@ fn departure(reg: Reg) -> &'static [u8]
         | Reg::Ptc1023
         | Reg::Ptc1522
         | Reg::Mptc
-        | Reg::Bptc => b"here engines make steps by rx and tx alone",
+        | Reg::Bptc
+        | Reg::Totl
+        | Reg::Toth
+        | Reg::Tpt => b"here engines make steps by rx and tx alone",
         Reg::Mpc
         | Reg::Prc64
         | Reg::Prc127
@@ -59,7 +70,10 @@ fn departure(reg: Reg) -> &'static [u8]
         | Reg::Gorch
         | Reg::Rnbc
         | Reg::Ruc
-        | Reg::Roc => b"here frames arrive by arrive alone",
+        | Reg::Roc
+        | Reg::Torl
+        | Reg::Torh
+        | Reg::Tpr => b"here frames arrive by arrive alone",
         _ => b"",
     }
 }

@@ -1,18 +1,19 @@
 //! The answers that lines expect, and how many were given so.
-ghost use Rattle.std.specs.Prelude.{◌≡◌, [], true, false};
+ghost use Rattle.std.specs.Prelude.{◌≡◌, IfOk, [], true, false};
 ghost use Rattle.std.specs.Option.{option_map};
 ghost use Rattle.em_step.specs.Event.{plain as plain_event};
 ghost use Rattle.em_text.specs.Writer.{Writes};
 ghost use Rattle.em_tape.specs.Texts.{texts};
-ghost use Rattle.em_debugger.specs.Expected.{IsAskedAccess, answers_otherwise, asks_access, asks_rules, compared_of};
-ghost use Rattle.em_debugger.specs.Expected.{compared_text, differs, scored, scored_answer, wanted, warned_behind, with_answer};
+ghost use Rattle.em_debugger.specs.Expected.{answers_otherwise, asks_rules, compared_of, compared_text, differs};
+ghost use Rattle.em_debugger.specs.Expected.{scored, scored_answer, wanted, warned_behind, warned_by, with_answer};
 
 use crate::debugger::Debugger;
 use crate::reading::access_said;
 use em_expect::{agrees_of, write_difference};
-use em_step::Event;
+use em_step::{Answer, Event, Refusal};
 use em_text::WriteFailed;
 use em_warnings::{Found, count_found, found_of, is_asked};
+use std::alloc::AllocError;
 use std::io::Write;
 
 /// How many answers were as their lines expect, how many were not, and how many warnings lines had.
@@ -77,75 +78,49 @@ impl Debugger {
         self.score
     }
 
-    /// Keeps which warnings a line has, if they are to be said, and counts them, and its answer, if it expects one.
-    pub(crate) fn count_answer(&mut self, line: usize)
+    /// Keeps which warnings a line has, and counts them, and its answer, if it expects one.
+    pub(crate) fn count_answer(&mut self, line: usize, found: Found)
+        requires { found ≡ warned_behind self.old line }
         ensures { self.new ≡ record self.old {
           score = scored self.old line;
-          warned = warned_behind self.old line;
+          warned = found;
         } }
     {
-        let access = self.access_asked(line);
-        let found = self.warned_behind(line, access);
-        self.count_expected(line, access);
+        self.count_expected(line);
         self.score = self.score.with_warnings(count_found(&found));
         self.warned = found;
     }
 
-    /// What a line accesses, if the answer that it expects or a rule asks for that. The line is read once for both.
-    fn access_asked(&self, line: usize) -> Option<Event<'static>>
-        ensures { IsAskedAccess line self.now (option_map plain_event result) }
+    /// What the rules say of a line that came to this, if that is to be said and they are asked. Memory is taken for the octets
+    /// that the line brings.
+    pub(crate) fn warned_by(
+        &self,
+        line: usize,
+        came: Option<Result<Answer, Refusal>>,
+    ) -> Result<Found, AllocError>
+        ensures { IfOk result (λ found. found ≡ warned_by self.now line came) }
     {
-        if self.asks_access(line) {
-            access_said(&self.tape, line)
-        } else {
-            None
+        if !self.asks_rules(came) {
+            return Ok(None);
         }
+        Ok(found_of(self.tape.machine(), access_said(&self.tape, line), came))
     }
 
-    /// Whether one of them asks. Of most lines none does, and they need not be read.
-    fn asks_access(&self, line: usize) -> bool
-        ensures { result ≡ asks_access line self.now }
+    /// Whether the rules are asked of a line that came to this.
+    fn asks_rules(&self, came: Option<Result<Answer, Refusal>>) -> bool
+        ensures { result ≡ asks_rules self.now came }
     {
-        !self.wanted.of(line).is_empty() || self.asks_rules(line)
+        self.warns && is_asked(came)
     }
 
-    /// Whether the rules are asked of a line.
-    fn asks_rules(&self, line: usize) -> bool
-        ensures { result ≡ asks_rules line self.now }
-    {
-        self.warns && is_asked(self.came.of(line).event())
-    }
-
-    /// What the rules say of a line with this access, if that is to be said and they are asked.
-    fn warned_behind(&self, line: usize, access: Option<Event<'_>>) -> Found
-        requires { IsAskedAccess line self.now (option_map plain_event access) }
-        ensures { result ≡ warned_behind self.now line }
-    {
-        if self.warns {
-            let came = self.came.of(line).event();
-            found_of(self.tape.machine(), access, came)
-        } else {
-            None
-        }
-    }
-
-    /// Counts the answer to a line with this access, if the line expects one.
-    fn count_expected(&mut self, line: usize, access: Option<Event<'_>>)
-        requires { IsAskedAccess line self.old (option_map plain_event access) }
+    /// Counts the answer to a line, if the line expects one.
+    fn count_expected(&mut self, line: usize)
         ensures { self.new ≡ record self.old { score = scored_answer self.old line } }
     {
         if !self.wanted.of(line).is_empty() {
-            let differs = self.differs_from(line, access);
+            let differs = self.answers_otherwise(line);
             self.score = self.score.with(differs);
         }
-    }
-
-    /// Whether a line with this access, whose answer was given last, expects another one.
-    fn differs_from(&self, line: usize, access: Option<Event<'_>>) -> bool
-        requires { IsAskedAccess line self.now (option_map plain_event access) }
-        ensures { result ≡ answers_otherwise self.now line }
-    {
-        differs(access, self.wanted.of(line), self.answer.as_slice())
     }
 
     /// Whether a line, whose answer was given last, expects another one.

@@ -25,6 +25,7 @@ mod lost;
 mod marks;
 mod moves;
 mod next;
+mod nowhere;
 mod offers;
 mod performing;
 mod place;
@@ -34,6 +35,8 @@ mod search;
 mod sending;
 mod stops;
 mod told;
+mod warned;
+mod warnings;
 mod who;
 mod why;
 

@@ -128,6 +128,7 @@ impl Debugger {
         self.wanted.keep(kept);
         self.marks.keep(kept);
         self.sent.keep(kept);
+        self.warnings.keep(kept);
         self.asked = None;
         Ok(dropped)
     }
@@ -244,6 +245,7 @@ impl Debugger {
             return Ok(None);
         }
         self.came.make_ready(line + 1)?;
+        self.warnings.prepare(line + 1)?;
         self.tape.to_line(line)?;
         self.answer.clear();
         let sent = self.tape.machine().wire_len();
@@ -259,11 +261,15 @@ impl Debugger {
         let Ok(()) = self.sent.make_ready(line, sent, now) else {
             return Err(BenchFault::Memory);
         };
+        let Ok(warned) = self.warned_by(line, outcome.event()) else {
+            return Err(BenchFault::Memory);
+        };
         match self.told.note(line, self.answer.as_slice()) {
             Ok(()) => {
                 self.sent.set(line, sent, now);
                 self.came.set(before, outcome);
-                self.count_answer(line);
+                self.warnings.say(before, &warned);
+                self.count_answer(line, warned);
                 Ok(Some(Performed { line, outcome }))
             }
             Err(_) => Err(BenchFault::Memory),

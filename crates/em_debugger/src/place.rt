@@ -1,5 +1,5 @@
 //! The place on a tape: lines by their numbers, from 1.
-ghost use Rattle.std.specs.Prelude.{◌≡◌, ◌≤◌, length};
+ghost use Rattle.std.specs.Prelude.{◌≡◌, ◌+◌, ◌≤◌, length};
 ghost use Rattle.em_tape.specs.Tape.{HoldsTape};
 ghost use Rattle.em_debugger.specs.Place.{events_of, line_here, text_of};
 
@@ -14,6 +14,15 @@ pub(crate) fn line_here(tape: &Tape) -> usize
 {
     holds(tape);
     tape.line()
+}
+
+/// The line behind that where the place lies, which may not be there.
+pub(crate) fn behind_here(tape: &Tape) -> usize
+    ensures line { result ≡ line_here tape.now + 1 }
+    ensures known { result ≤ length tape.now.did + 1 }
+{
+    holds(tape);
+    line_here(tape) + 1
 }
 
 /// What holds of every tape holds of this one. Nothing is done: proofs ask for it.

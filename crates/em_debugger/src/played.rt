@@ -4,12 +4,13 @@ ghost use Rattle.em_script.specs.declared.runner.BenchFault.{BenchFault as Fault
 ghost use Rattle.em_text.specs.Writer.{Writes};
 ghost use Rattle.em_debugger.specs.declared.performing.Performed.{Performed as Line};
 ghost use Rattle.em_debugger.specs.declared.played.Played.{Played as Count};
-ghost use Rattle.em_debugger.specs.Played.{ended_text, first_text, is_wrong, one_wrong_text, others_text, played_text};
+ghost use Rattle.em_debugger.specs.Played.{ended_text, first_text, is_wrong, one_wrong_text, others_text, played_text, ran_text};
 ghost use Rattle.em_debugger.specs.Played.{wrong_ones_text, wrong_text};
 ghost use Rattle.em_debugger.specs.Played.{CountsUp, PlaysAll};
 
 use crate::debugger::Debugger;
 use crate::performing::{Performed, write_fault};
+use crate::place::behind_here;
 use em_looks::{write_count, write_number};
 use em_script::{BenchFault, Outcome};
 use em_text::{WriteFailed, write_whole};
@@ -66,14 +67,15 @@ fn is_wrong(performed: Performed) -> bool
 }
 
 impl Debugger {
-    /// Performs all lines that lie ahead, and says how many they were and which were refused.
+    /// Performs all lines that lie ahead, and says how many they were, which were refused, and how many warnings they have.
     pub fn run_all<W: Write>(&mut self, writer: &mut W) -> Result<(), WriteFailed>
         ensures { (played : Count) × (fault : Option Fault) × PlaysAll self.old self.new played fault
-            × Writes (W.contents writer.old) (W.contents writer.new) result
-            (played_text self.new played ++ ended_text fault) }
+            × Writes (W.contents writer.old) (W.contents writer.new) result (ran_text self.old self.new played fault) }
     {
+        let first = behind_here(&self.tape);
         let (played, fault) = self.play_all();
         self.write_played(writer, played)?;
+        self.write_summary(writer, first, behind_here(&self.tape))?;
         write_ended(writer, fault)
     }
 

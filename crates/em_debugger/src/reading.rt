@@ -6,7 +6,7 @@ ghost use Rattle.em_step.specs.Event.{plain as plain_event};
 ghost use Rattle.em_line.specs.Command.{plain as plain_command};
 ghost use Rattle.em_line.specs.Grammar.{parsed_line};
 ghost use Rattle.em_line.specs.ParsedLine.{command_in};
-ghost use Rattle.em_debugger.specs.Reading.{access_said, command_said, event_read, event_said, undone_event};
+ghost use Rattle.em_debugger.specs.Reading.{access_said, command_said, event_read, event_said, event_where, undone_event};
 
 use crate::place::text_of;
 use em_explain::is_undone;
@@ -46,7 +46,19 @@ pub(crate) fn read_undone(
 ) -> Result<Option<Line<'_>>, AllocError>
     ensures { IfOk result (λ read. event_read read ≡ undone_event came (event_said line tape.now)) }
 {
-    if !is_undone(came) {
+    read_where(alloc, tape, line, is_undone(came))
+}
+
+/// A line, read where its event is asked for. Memory is taken for the octets that it brings.
+pub(crate) fn read_where(
+    alloc: Global,
+    tape: &Tape,
+    line: usize,
+    asked: bool,
+) -> Result<Option<Line<'_>>, AllocError>
+    ensures { IfOk result (λ read. event_read read ≡ event_where asked (event_said line tape.now)) }
+{
+    if !asked {
         return Ok(None);
     }
     let read = Line::read(alloc, text_of(tape, line))?;

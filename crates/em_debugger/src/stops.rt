@@ -17,6 +17,7 @@ use em_looks::{watch_of, write_counted, write_number, write_short, write_watch};
 use em_prompt::Until;
 use em_script::BenchFault;
 use em_text::{WriteFailed, write_whole};
+use em_warnings::count_found;
 use em_watch::{Watch, last_change};
 use std::io::Write;
 
@@ -26,6 +27,7 @@ pub(crate) enum Stop {
     Refused,
     Dropped,
     Differs,
+    Warning,
     Line(usize),
     Changes(Watch),
 }
@@ -132,6 +134,7 @@ impl Debugger {
             Stop::Refused => is_refused(performed.outcome),
             Stop::Dropped => loses(&self.tape, performed),
             Stop::Differs => self.answers_otherwise(performed.line),
+            Stop::Warning => count_found(&self.warned) > 0,
             Stop::Line(_) => false,
             Stop::Changes(watch) => self.is_changed(watch, before),
         }
@@ -187,6 +190,7 @@ fn stop_of(until: Until) -> Stop
         Until::Refused => Stop::Refused,
         Until::Dropped => Stop::Dropped,
         Until::Differs => Stop::Differs,
+        Until::Warning => Stop::Warning,
         Until::Line(line) => Stop::Line(line as usize),
         Until::Changes(watch) => Stop::Changes(watch_of(watch)),
     }
@@ -200,6 +204,7 @@ fn write_missed<W: Write>(writer: &mut W, stop: Stop) -> Result<(), WriteFailed>
         Stop::Refused => write_whole(writer, b"none was refused\n"),
         Stop::Dropped => write_whole(writer, b"none was dropped\n"),
         Stop::Differs => write_whole(writer, b"no answer differs\n"),
+        Stop::Warning => write_whole(writer, b"no line has a warning\n"),
         Stop::Line(line) => write_number(writer, b"no line ", line as u64, b" lies ahead\n"),
         Stop::Changes(watch) => write_unchanged(writer, watch),
     }

@@ -200,7 +200,7 @@ pub(crate) fn write_event<W: Write>(
     write_noted(writer, marks, tape, event, note, tape.line_of(event))
 }
 
-fn write_noted<W: Write>(
+pub(crate) fn write_noted<W: Write>(
     writer: &mut W,
     marks: &Told,
     tape: &Tape,

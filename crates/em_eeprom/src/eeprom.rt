@@ -60,6 +60,13 @@ impl Eeprom {
         Eeprom::of_words(words)
     }
 
+    /// All words.
+    pub fn words(&self) -> &[u16; WORDS]
+        ensures { result.now ≡ self.now }
+    {
+        &self.words
+    }
+
     /// The word at an address, 0 above 63.
     pub fn word(&self, addr: u8) -> u16
         ensures word { result ≡ word_at self.now addr }

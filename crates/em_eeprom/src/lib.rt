@@ -3,4 +3,4 @@
 
 mod eeprom;
 
-pub use eeprom::Eeprom;
+pub use eeprom::{Eeprom, WORDS};

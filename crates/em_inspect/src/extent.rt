@@ -3,10 +3,12 @@ ghost use Rattle.std.specs.Prelude.{◌≡◌, ◌+◌};
 ghost use Rattle.em_inspect.specs.Extent.{overlaps};
 
 /// So many octets from an address on.
-#[derive(Clone, Copy)]
-pub(crate) struct Extent {
-    pub(crate) at: u64,
-    pub(crate) size: u64,
+#[derive(Clone, Copy, Debug, PartialEq, Eq)]
+pub struct Extent {
+    /// The address of the first.
+    pub at: u64,
+    /// How many they are.
+    pub size: u64,
 }
 
 impl Extent {
@@ -18,7 +20,7 @@ impl Extent {
     }
 
     /// Whether both have an octet in common.
-    pub(crate) fn overlaps(&self, other: &Extent) -> bool
+    pub fn overlaps(&self, other: &Extent) -> bool
         ensures { result ≡ overlaps self.now other.now }
     {
         u128::from(self.at.max(other.at)) < self.end().min(other.end())

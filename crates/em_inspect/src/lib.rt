@@ -14,6 +14,7 @@ mod trouble;
 
 pub use descriptor::{Bits, Descriptor, Fields, octets_at};
 pub use descriptor_line::write_descriptor;
+pub use extent::Extent;
 pub use frame::{Heading, write_frame, write_stored_frame};
 pub use lines::write_octet_lines;
 pub use piece::{write_address, write_number};

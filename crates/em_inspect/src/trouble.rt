@@ -140,8 +140,8 @@ impl SidedRing {
             && !(is_adapters(&self.setup, index) && is_adapters(&self.setup, other))
     }
 
-    /// The buffer of a live descriptor; none where it is not live, or has none.
-    fn claim(&self, machine: &Machine, index: u32) -> Option<Extent>
+    /// The buffer of a live descriptor; none where it is not live, or has none. A descriptor of the adapter's is live.
+    pub fn claim(&self, machine: &Machine, index: u32) -> Option<Extent>
         ensures { result ≡ claim_of self.now machine.now.present.base machine.now.present.memory index }
     {
         let fields = self.fields(machine, index)?;

@@ -234,7 +234,9 @@ impl Machine {
         match reg.row().kind {
             Kind::Stored | Kind::Control | Kind::EepromRead => self.read_stored(reg),
             Kind::Interrupt | Kind::Counter => self.read_latched(reg),
-            Kind::Status | Kind::EepromPins | Kind::PhyCommand => self.read_other(reg),
+            Kind::Status | Kind::EepromPins | Kind::PhyCommand | Kind::Uncounted => self.read_other(
+                reg,
+            ),
         }
     }
 
@@ -249,8 +251,12 @@ impl Machine {
         match reg.row().kind {
             Kind::Stored => self.write_stored(reg, value),
             Kind::Interrupt | Kind::Counter => self.write_latched(reg, value),
-            Kind::Control | Kind::EepromRead | Kind::Status | Kind::EepromPins | Kind::PhyCommand =>
-                self.write_other(reg, value)?,
+            Kind::Control
+            | Kind::EepromRead
+            | Kind::Status
+            | Kind::EepromPins
+            | Kind::PhyCommand
+            | Kind::Uncounted => self.write_other(reg, value)?,
         }
         Ok(())
     }
@@ -458,6 +464,21 @@ impl Machine {
     {
         let found = self.records.ring.get(k)?;
         Some(Past::new(found, &self.records.octets))
+    }
+
+    /// The adapter, to look at.
+    pub fn adapter(&self) -> &Adapter
+        ensures { shows result.now ≡ self.now.present }
+    {
+        &self.adapter
+    }
+
+    /// The journal's budget in octets of cost.
+    pub fn budget(&self) -> u64
+        ensures budget { result ≡ self.now.budget }
+        ensures allowed { IsBudget result }
+    {
+        self.budget
     }
 
     /// Which profile it is of.

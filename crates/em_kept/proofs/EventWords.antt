@@ -3,7 +3,6 @@ use Rattle.std.proofs.Common.{◌≡◌, ℕ, ◌^◌, ◌<◌, ◌≤◌, true,
 use Rattle.std.proofs.Common.{◌++◌, length, ap, ◌∙◌, refl, arith, codes, Some, append_assoc}
 use Rattle.std.specs.Prelude.{decimal, filter, nat_lt}
 use Rattle.std.specs.List.{All, list_all, slice_split}
-use Rattle.std.specs.Int.{w32, w64, to_be_bytes}
 use Rattle.std.proofs.lemmas.Bool.{lt-ltb}
 use Rattle.std.proofs.lemmas.Bool.Decides.{nat_tests}
 use Rattle.std.proofs.lemmas.List.Splits.{slice_split_at, slice_split_none}
@@ -15,11 +14,12 @@ use Rattle.em_step.specs.Event.{Event, reads, writes, pokes, arrives, links, rec
 use Rattle.em_line.specs.Command.{back_by, event}
 use Rattle.em_line.specs.ParsedLine.{says}
 use Rattle.em_line.specs.Grammar.{from_one_to, parsed_line, words_form, with}
+use Rattle.em_kept.specs.Digits.{number_digits}
 use Rattle.em_kept.specs.Kept.{back_words, event_words}
 use Rattle.em_kept.specs.ReadBack.{HasOctets, IsTyped}
-use Rattle.em_kept.proofs.DigitLaws.{bytes_fit, decimal_read, no_blank, octets_of_hex, solid_decimal, some_decimal, some_hex}
+use Rattle.em_kept.proofs.DigitLaws.{decimal_read, no_blank, octets_of_hex, solid_decimal, some_decimal, some_hex}
 use Rattle.em_kept.proofs.PartsOfLines.{all_not}
-use Rattle.em_kept.proofs.DigitLaws.{value_32, value_64}
+use Rattle.em_kept.proofs.DigitLaws.{read_32, read_64, solid_number, some_number}
 
 -- ---- words
 
@@ -53,11 +53,11 @@ pub hex_word : (xs : List ℕ) → IsBytes xs → 0 < length xs → IsWord (hex_
 hex_word xs h some =
     record { solid = no_blank xs h; some = some_hex xs some }
 
-pub word_32 : (n : ℕ) → IsWord (hex_text (to_be_bytes w32 n))
-word_32 n = hex_word (to_be_bytes w32 n) (bytes_fit 4 n) (omega arith)
+pub number_word : (n : ℕ) → n < 2 ^ 64 → IsWord (number_digits n)
+number_word n h = record { solid = solid_number n; some = some_number n h }
 
-pub word_64 : (n : ℕ) → IsWord (hex_text (to_be_bytes w64 n))
-word_64 n = hex_word (to_be_bytes w64 n) (bytes_fit 8 n) (omega arith)
+pub word_32 : (n : ℕ) → n < 2 ^ 32 → IsWord (number_digits n)
+word_32 n h = number_word n (omega (arith, h))
 
 name : (xs : List ℕ) → list_all (λ x. not (is_blank x)) xs ≡ true → 0 < length xs → IsWord xs
 name xs h some = record { solid = all_not is_blank xs h; some = some }
@@ -70,22 +70,21 @@ decimal_word n h = record { solid = solid_decimal n h; some = some_decimal n h }
 pub event_said : (e : Event) → IsTyped e → HasOctets e → parsed_line (event_words e) ≡ says (event e)
 unfolding parsed_line
 event_said (reads o) h some =
-    let offset = hex_text (to_be_bytes w32 o) in
-    ap words_form (words_two (codes "r") offset (name (codes "r") refl (omega arith)) (word_32 o))
-    ∙ ap (λ v. with v (λ o. says (event (reads o)))) (value_32 o h)
+    ap words_form (words_two (codes "r") (number_digits o) (name (codes "r") refl (omega arith)) (word_32 o h))
+    ∙ ap (λ v. with v (λ o. says (event (reads o)))) (read_32 o h)
 event_said (writes o v) h some =
-    let offset = hex_text (to_be_bytes w32 o) in
-    let value = hex_text (to_be_bytes w32 v) in
-    ap words_form (words_three (codes "w") offset value (name (codes "w") refl (omega arith)) (word_32 o) (word_32 v))
-    ∙ ap (λ n. with n (λ o. with (number 16 8 value) (λ v. says (event (writes o v))))) (value_32 o h.0)
-    ∙ ap (λ n. with n (λ v. says (event (writes o v)))) (value_32 v h.1)
+    let value = number_digits v in
+    ap words_form (words_three (codes "w") (number_digits o) value (name (codes "w") refl (omega arith)) (word_32 o h.0)
+    (word_32 v h.1))
+    ∙ ap (λ n. with n (λ o. with (number 16 8 value) (λ v. says (event (writes o v))))) (read_32 o h.0)
+    ∙ ap (λ n. with n (λ v. says (event (writes o v)))) (read_32 v h.1)
 event_said (pokes a octets) h some =
-    let addr = hex_text (to_be_bytes w64 a) in
+    let addr = number_digits a in
     let digits = hex_text octets in
     ap (λ l. words_form (words_of (codes "poke " ++ l))) (append_assoc addr (codes " ") digits)
-    ∙ ap words_form (words_three (codes "poke") addr digits (name (codes "poke") refl (omega arith)) (word_64 a)
+    ∙ ap words_form (words_three (codes "poke") addr digits (name (codes "poke") refl (omega arith)) (number_word a h.0)
     (hex_word octets h.1.0 some))
-    ∙ ap (λ n. with n (λ a. with (octets_of digits) (λ octets. says (event (pokes a octets))))) (value_64 a h.0)
+    ∙ ap (λ n. with n (λ a. with (octets_of digits) (λ octets. says (event (pokes a octets))))) (read_64 a h.0)
     ∙ ap (λ n. with n (λ octets. says (event (pokes a octets)))) (octets_of_hex octets h.1.0 some)
 event_said (arrives octets) h some =
     ap words_form (words_two (codes "arrive") (hex_text octets) (name (codes "arrive") refl (omega arith))

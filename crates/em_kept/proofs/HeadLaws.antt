@@ -11,10 +11,10 @@ use Rattle.em_regs.specs.declared.profile.Profile.{Profile}
 use Rattle.em_regs.specs.declared.profile.Profile.TheVariants.{Table, Adapter}
 use Rattle.em_text.specs.Lines.{is_newline, lines_of}
 use Rattle.em_text.specs.Writer.{hex_text}
-use Rattle.em_kept.specs.Head.{base_text, head_lines, head_text, is_of_mac, marked_base_text, profile_text}
+use Rattle.em_kept.specs.Head.{address_digits, base_text, head_lines, head_text, is_of_mac, marked_base_text, profile_text}
 use Rattle.em_kept.specs.Head.{settings_line, settings_text}
 use Rattle.em_kept.specs.Head.{words_from, words_line, words_text, word_digits}
-use Rattle.em_kept.specs.Kept.{address_digits, text_of}
+use Rattle.em_kept.specs.Kept.{text_of}
 use Rattle.em_kept.specs.ReadBack.{AreSilent, AreWhole}
 use Rattle.em_kept.proofs.DigitLaws.{bytes_fit, quiet_decimal, quiet_hex}
 use Rattle.em_kept.proofs.LineLaws.{silent_line, text_lines}

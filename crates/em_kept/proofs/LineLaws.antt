@@ -3,7 +3,7 @@ use Rattle.std.proofs.Common.{◌≡◌, ℕ, zero, suc, ◌^◌, ◌<◌, ◌�
 use Rattle.std.proofs.Common.{Some, None, refl, sym, ap, ◌∙◌, arith, codes, subst, append_assoc}
 use Rattle.std.specs.Prelude.{nat_le, if◌then◌else◌, decimal, option_map}
 use Rattle.std.specs.List.{All, flat_map, list_all}
-use Rattle.std.specs.Int.{w32, w64, to_be_bytes}
+use Rattle.std.specs.Int.{w32, to_be_bytes}
 use Rattle.std.proofs.lemmas.Bool.{and_parts, false≢true}
 use Rattle.std.proofs.lemmas.Bool.Decides.{nat_tests}
 use Rattle.std.proofs.lemmas.List.Elements.{All-append}
@@ -23,11 +23,12 @@ use Rattle.em_line.specs.Grammar.{parsed_line, words_form}
 use Rattle.em_line.specs.ParsedLine.{says, silent}
 use Rattle.em_line.specs.Parts.{first_place, is_comment_line, marks_at, said_before, said_in}
 use Rattle.em_kept.specs.Source.{Source, place_of}
-use Rattle.em_kept.specs.Kept.{address_digits, answer_words, back_line, back_words, can_stand, comment_words}
+use Rattle.em_kept.specs.Digits.{number_digits}
+use Rattle.em_kept.specs.Kept.{answer_words, back_line, back_words, can_stand, comment_words}
 use Rattle.em_kept.specs.Kept.{event_line, event_words}
 use Rattle.em_kept.specs.Kept.{has_line, line_of, refused_line, refused_words, refusal_words, text_of, told_words}
 use Rattle.em_kept.specs.ReadBack.{AreWhole, HasOctets, IsSilent, IsTyped, IsTypedAnswer, IsTypedSource, ReadsBack}
-use Rattle.em_kept.proofs.DigitLaws.{bytes_fit, quiet_decimal, quiet_hex}
+use Rattle.em_kept.proofs.DigitLaws.{bytes_fit, quiet_decimal, quiet_hex, quiet_number}
 use Rattle.em_kept.proofs.EventWords.{IsWord, back_said, decimal_word, event_said, hex_word, word_32}
 use Rattle.em_kept.proofs.PartsOfLines.{EndsWell, IsPart, IsSolid, all_literal, all_quiet, ends_behind, first_word, is_quiet}
 use Rattle.em_kept.proofs.PartsOfLines.{line_reads, line_whole, lines_cut, no_comment, no_newline, word_ends}
@@ -44,24 +45,21 @@ join xs ys a b = All-append (λ x. is_quiet x ≡ true) xs ys a b
 value_quiet : (n : ℕ) → Quiet (value_digits n)
 value_quiet n = quiet_hex (to_be_bytes w32 n) (bytes_fit 4 n)
 
-address_quiet : (n : ℕ) → Quiet (address_digits n)
-address_quiet n = quiet_hex (to_be_bytes w64 n) (bytes_fit 8 n)
-
 ends_word : (xs : List ℕ) → IsWord xs → EndsWell xs
 ends_word xs is = word_ends xs is.solid is.some
 
 -- ---- what is said
 
 event_quiet : (e : Event) → IsTyped e → Quiet (event_words e)
-event_quiet (reads o) h = join (codes "r ") (value_digits o) (all_literal (codes "r ") refl) (value_quiet o)
+event_quiet (reads o) h = join (codes "r ") (number_digits o) (all_literal (codes "r ") refl) (quiet_number o)
 event_quiet (writes o v) h =
-    join (codes "w ") (value_digits o ++ (codes " " ++ value_digits v)) (all_literal (codes "w ") refl)
-    (join (value_digits o) (codes " " ++ value_digits v) (value_quiet o)
-    (join (codes " ") (value_digits v) (all_literal (codes " ") refl) (value_quiet v)))
+    join (codes "w ") (number_digits o ++ (codes " " ++ number_digits v)) (all_literal (codes "w ") refl)
+    (join (number_digits o) (codes " " ++ number_digits v) (quiet_number o)
+    (join (codes " ") (number_digits v) (all_literal (codes " ") refl) (quiet_number v)))
 event_quiet (pokes a octets) h =
-    join (codes "poke " ++ (address_digits a ++ codes " ")) (hex_text octets)
-    (join (codes "poke ") (address_digits a ++ codes " ") (all_literal (codes "poke ") refl)
-    (join (address_digits a) (codes " ") (address_quiet a) (all_literal (codes " ") refl))) (quiet_hex octets h.1.0)
+    join (codes "poke " ++ (number_digits a ++ codes " ")) (hex_text octets)
+    (join (codes "poke ") (number_digits a ++ codes " ") (all_literal (codes "poke ") refl)
+    (join (number_digits a) (codes " ") (quiet_number a) (all_literal (codes " ") refl))) (quiet_hex octets h.1.0)
 event_quiet (arrives octets) h =
     join (codes "arrive ") (hex_text octets) (all_literal (codes "arrive ") refl) (quiet_hex octets h.0)
 event_quiet (links true) h = all_literal (codes "link up") refl
@@ -70,13 +68,13 @@ event_quiet receives h = all_literal (codes "rx") refl
 event_quiet transmits h = all_literal (codes "tx") refl
 
 event_ends : (e : Event) → IsTyped e → HasOctets e → EndsWell (event_words e)
-event_ends (reads o) h some = ends_behind (codes "r ") (value_digits o) (ends_word (value_digits o) (word_32 o))
+event_ends (reads o) h some = ends_behind (codes "r ") (number_digits o) (ends_word (number_digits o) (word_32 o h))
 event_ends (writes o v) h some =
-    ends_behind (codes "w ") (value_digits o ++ (codes " " ++ value_digits v))
-    (ends_behind (value_digits o) (codes " " ++ value_digits v)
-    (ends_behind (codes " ") (value_digits v) (ends_word (value_digits v) (word_32 v))))
+    ends_behind (codes "w ") (number_digits o ++ (codes " " ++ number_digits v))
+    (ends_behind (number_digits o) (codes " " ++ number_digits v)
+    (ends_behind (codes " ") (number_digits v) (ends_word (number_digits v) (word_32 v h.1))))
 event_ends (pokes a octets) h some =
-    ends_behind (codes "poke " ++ (address_digits a ++ codes " ")) (hex_text octets)
+    ends_behind (codes "poke " ++ (number_digits a ++ codes " ")) (hex_text octets)
     (ends_word (hex_text octets) (hex_word octets h.1.0 some))
 event_ends (arrives octets) h some =
     ends_behind (codes "arrive ") (hex_text octets) (ends_word (hex_text octets) (hex_word octets h.0 some))
@@ -131,7 +129,7 @@ back_part n h =
 
 value_part : (n : ℕ) → IsPart (value_digits n)
 value_part n =
-    let is = word_32 n in
+    let is = hex_word (to_be_bytes w32 n) (bytes_fit 4 n) (omega arith) in
     record {
       quiet = value_quiet n;
       solid = record { some = is.some; first = is.solid 0 0 is.some; last = (ends_word (value_digits n) is).last };
@@ -303,9 +301,9 @@ silent_line rest whole =
 
 told_quiet : (e : Event) → IsTyped e → Quiet (told_words e)
 told_quiet (pokes a octets) h =
-    join (codes "poke ") (address_digits a ++ (codes " length " ++ decimal (length octets)))
+    join (codes "poke ") (number_digits a ++ (codes " length " ++ decimal (length octets)))
     (all_literal (codes "poke ") refl)
-    (join (address_digits a) (codes " length " ++ decimal (length octets)) (address_quiet a)
+    (join (number_digits a) (codes " length " ++ decimal (length octets)) (quiet_number a)
     (join (codes " length ") (decimal (length octets)) (all_literal (codes " length ") refl)
     (quiet_decimal (length octets) h.1.1)))
 told_quiet (arrives octets) h =

@@ -190,14 +190,14 @@ no_blanks xs ys is =
     prefix_len-drop_no is_blank (xs ++ ys) 0 0 (omega (arith, length-append xs ys, is.some))
     (ap is_blank (get_or_append_left xs ys 0 0 is.some) ∙ is.first)
 
-trimmed_space : (xs : List ℕ) → IsSolid xs → without_blanks (32 ∷ (xs ++ 32 ∷ [])) ≡ xs
+trimmed_space : (xs : List ℕ) → IsSolid xs → without_blanks (xs ++ 32 ∷ []) ≡ xs
 trimmed_space xs is =
-    ap (λ n. without_end (drop (1 + n) (32 ∷ (xs ++ 32 ∷ [])))) (no_blanks xs (32 ∷ []) is) ∙ end_space xs is
+    ap (λ n. without_end (drop n (xs ++ 32 ∷ []))) (no_blanks xs (32 ∷ []) is) ∙ end_space xs is
 
-trimmed : (xs : List ℕ) → IsSolid xs → without_blanks (32 ∷ xs) ≡ xs
+trimmed : (xs : List ℕ) → IsSolid xs → without_blanks xs ≡ xs
 trimmed xs is =
     let none : prefix_len is_blank xs ≡ 0 = ap (prefix_len is_blank) (sym (append-nil xs)) ∙ no_blanks xs [] is in
-    ap (λ n. without_end (drop (1 + n) (32 ∷ xs))) none ∙ end_solid xs is
+    ap (λ n. without_end (drop n xs)) none ∙ end_solid xs is
 
 -- ---- ends of texts
 
@@ -291,16 +291,15 @@ all_literal xs h = AllPass-from_list_all is_quiet xs h
 
 -- an octet that is a space or quiet, in all that stands before a place
 before_place : (P : ℕ → Type 0) (said answer rest : List ℕ) → All P said → All P answer → All P rest → P 32 → P 61
-    → All P (said ++ (codes " = " ++ (answer ++ rest)))
+    → All P (said ++ (codes " =" ++ (answer ++ rest)))
 before_place P said answer rest s a r space equals =
-    All-append P said (codes " = " ++ (answer ++ rest)) s
-    (All-append P (codes " = ") (answer ++ rest) sign (All-append P answer rest a r))
+    All-append P said (codes " =" ++ (answer ++ rest)) s
+    (All-append P (codes " =") (answer ++ rest) sign (All-append P answer rest a r))
   where
-    sign : All P (codes " = ")
+    sign : All P (codes " =")
     sign zero d lt = space
     sign (suc zero) d lt = equals
-    sign (suc (suc zero)) d lt = space
-    sign (suc (suc (suc k))) d lt = absurd (omega arith)
+    sign (suc (suc k)) d lt = absurd (omega arith)
 
 -- what is said, and behind that an answer and a place
 abbrev pub line_with : List ℕ → List ℕ → Option (List ℕ) → List ℕ
@@ -313,20 +312,19 @@ hash_none said answer None s a p =
     (before_place (λ x. (x == 35) ≡ false) said answer [] (all_quiet _ said no_hash s.quiet)
     (all_quiet _ answer no_hash a.quiet) (λ k d lt. absurd (omega arith)) refl refl)
 hash_none said answer (Some place) s a p =
-    let front = said ++ (codes " = " ++ (answer ++ codes " @ ")) in
+    let front = said ++ (codes " =" ++ (answer ++ codes " @")) in
     let cut : front ++ place ≡ line_with said answer (Some place) =
-    append_assoc said (codes " = " ++ (answer ++ codes " @ ")) place
-    ∙ ap (λ l. said ++ (codes " = " ++ l)) (append_assoc answer (codes " @ ") place) in
+    append_assoc said (codes " =" ++ (answer ++ codes " @")) place
+    ∙ ap (λ l. said ++ (codes " =" ++ l)) (append_assoc answer (codes " @") place) in
     subst (λ l. BeginsNone 35 l) cut
     (begins_none_behind 35 front place
-    (before_place (λ x. (x == 35) ≡ false) said answer (codes " @ ") (all_quiet _ said no_hash s.quiet)
+    (before_place (λ x. (x == 35) ≡ false) said answer (codes " @") (all_quiet _ said no_hash s.quiet)
     (all_quiet _ answer no_hash a.quiet) sign refl refl) p.hash)
   where
-    sign : All (λ x. (x == 35) ≡ false) (codes " @ ")
+    sign : All (λ x. (x == 35) ≡ false) (codes " @")
     sign zero d lt = refl
     sign (suc zero) d lt = refl
-    sign (suc (suc zero)) d lt = refl
-    sign (suc (suc (suc k))) d lt = absurd (omega arith)
+    sign (suc (suc k)) d lt = absurd (omega arith)
 
 -- ---- the parts
 
@@ -353,27 +351,26 @@ expected_read said answer None s a p =
     before_place (λ x. (x == 64) ≡ false) said answer [] (all_quiet _ said no_at s.quiet)
     (all_quiet _ answer no_at a.quiet) (λ k d lt. absurd (omega arith)) refl refl in
     ap (behind_of 61) (front_whole 64 line (begins_none 64 line lacks))
-    ∙ behind_cut 61 said (32 ∷ (answer ++ [])) (all_quiet _ said no_equals s.quiet) refl refl
-    ∙ ap (λ l. Some (without_blanks (32 ∷ l))) (append-nil answer) ∙ ap Some (trimmed answer a.solid)
+    ∙ behind_cut 61 said (answer ++ []) (all_quiet _ said no_equals s.quiet) refl refl
+    ∙ ap (λ l. Some (without_blanks l)) (append-nil answer) ∙ ap Some (trimmed answer a.solid)
 expected_read said answer (Some place) s a p =
-    let front = said ++ (codes " = " ++ answer) in
+    let front = said ++ (codes " =" ++ answer) in
     let lacks : Lacks 64 front =
-    All-append (λ x. (x == 64) ≡ false) said (codes " = " ++ answer) (all_quiet _ said no_at s.quiet)
-    (All-append (λ x. (x == 64) ≡ false) (codes " = ") answer sign (all_quiet _ answer no_at a.quiet)) in
-    let cut : line_with said answer (Some place) ≡ front ++ 32 ∷ 64 ∷ (32 ∷ place) =
-    sym (append_assoc said (codes " = " ++ answer) (codes " @ " ++ place)) in
-    let again : front ++ 32 ∷ [] ≡ said ++ 32 ∷ 61 ∷ (32 ∷ (answer ++ 32 ∷ [])) =
-    append_assoc said (codes " = " ++ answer) (32 ∷ []) in
-    ap (λ l. behind_of 61 (front_of 64 l)) cut ∙ ap (behind_of 61) (front_cut 64 front (32 ∷ place) lacks refl refl)
+    All-append (λ x. (x == 64) ≡ false) said (codes " =" ++ answer) (all_quiet _ said no_at s.quiet)
+    (All-append (λ x. (x == 64) ≡ false) (codes " =") answer sign (all_quiet _ answer no_at a.quiet)) in
+    let cut : line_with said answer (Some place) ≡ front ++ 32 ∷ 64 ∷ place =
+    sym (append_assoc said (codes " =" ++ answer) (codes " @" ++ place)) in
+    let again : front ++ 32 ∷ [] ≡ said ++ 32 ∷ 61 ∷ (answer ++ 32 ∷ []) =
+    append_assoc said (codes " =" ++ answer) (32 ∷ []) in
+    ap (λ l. behind_of 61 (front_of 64 l)) cut ∙ ap (behind_of 61) (front_cut 64 front place lacks refl refl)
     ∙ ap (behind_of 61) again
-    ∙ behind_cut 61 said (32 ∷ (answer ++ 32 ∷ [])) (all_quiet _ said no_equals s.quiet) refl refl
+    ∙ behind_cut 61 said (answer ++ 32 ∷ []) (all_quiet _ said no_equals s.quiet) refl refl
     ∙ ap Some (trimmed_space answer a.solid)
   where
-    sign : All (λ x. (x == 64) ≡ false) (codes " = ")
+    sign : All (λ x. (x == 64) ≡ false) (codes " =")
     sign zero d lt = refl
     sign (suc zero) d lt = refl
-    sign (suc (suc zero)) d lt = refl
-    sign (suc (suc (suc k))) d lt = absurd (omega arith)
+    sign (suc (suc k)) d lt = absurd (omega arith)
 
 source_read : (said answer : List ℕ) (place : Option (List ℕ)) → IsPart said → IsPart answer → IsPlaceIn place
     → behind_of 64 (line_with said answer place) ≡ place
@@ -384,19 +381,18 @@ source_read said answer None s a p =
     (all_quiet _ answer no_at a.quiet) (λ k d lt. absurd (omega arith)) refl refl in
     behind_none 64 line (begins_none 64 line lacks)
 source_read said answer (Some place) s a p =
-    let front = said ++ (codes " = " ++ answer) in
+    let front = said ++ (codes " =" ++ answer) in
     let lacks : Lacks 64 front =
-    All-append (λ x. (x == 64) ≡ false) said (codes " = " ++ answer) (all_quiet _ said no_at s.quiet)
-    (All-append (λ x. (x == 64) ≡ false) (codes " = ") answer sign (all_quiet _ answer no_at a.quiet)) in
-    let cut : line_with said answer (Some place) ≡ front ++ 32 ∷ 64 ∷ (32 ∷ place) =
-    sym (append_assoc said (codes " = " ++ answer) (codes " @ " ++ place)) in
-    ap (behind_of 64) cut ∙ behind_cut 64 front (32 ∷ place) lacks refl refl ∙ ap Some (trimmed place p.solid)
+    All-append (λ x. (x == 64) ≡ false) said (codes " =" ++ answer) (all_quiet _ said no_at s.quiet)
+    (All-append (λ x. (x == 64) ≡ false) (codes " =") answer sign (all_quiet _ answer no_at a.quiet)) in
+    let cut : line_with said answer (Some place) ≡ front ++ 32 ∷ 64 ∷ place =
+    sym (append_assoc said (codes " =" ++ answer) (codes " @" ++ place)) in
+    ap (behind_of 64) cut ∙ behind_cut 64 front place lacks refl refl ∙ ap Some (trimmed place p.solid)
   where
-    sign : All (λ x. (x == 64) ≡ false) (codes " = ")
+    sign : All (λ x. (x == 64) ≡ false) (codes " =")
     sign zero d lt = refl
     sign (suc zero) d lt = refl
-    sign (suc (suc zero)) d lt = refl
-    sign (suc (suc (suc k))) d lt = absurd (omega arith)
+    sign (suc (suc k)) d lt = absurd (omega arith)
 
 -- a line that is put together of them has these parts
 pub line_reads : (said answer : List ℕ) (place : Option (List ℕ)) → IsPart said → IsPart answer → IsPlaceIn place
@@ -407,7 +403,7 @@ line_reads said answer place s a p first =
     let hash = hash_none said answer place s a p in
     let whole : front_of 35 line ≡ line = front_whole 35 line hash in
     record {
-      says = said_read said (32 ∷ (answer ++ placed place)) s first;
+      says = said_read said (answer ++ placed place) s first;
       expects = ap (λ l. behind_of 61 (front_of 64 l)) whole ∙ expected_read said answer place s a p;
       comes_from = ap (behind_of 64) whole ∙ source_read said answer place s a p;
       comments = behind_none 35 line hash;
@@ -420,15 +416,14 @@ line_whole said answer None s a p =
     before_place (λ x. is_newline x ≡ false) said answer [] s (all_quiet _ answer no_newline a.quiet)
     (λ k d lt. absurd (omega arith)) refl refl
 line_whole said answer (Some place) s a p =
-    before_place (λ x. is_newline x ≡ false) said answer (codes " @ " ++ place) s
+    before_place (λ x. is_newline x ≡ false) said answer (codes " @" ++ place) s
     (all_quiet _ answer no_newline a.quiet)
-    (All-append (λ x. is_newline x ≡ false) (codes " @ ") place sign p.line) refl refl
+    (All-append (λ x. is_newline x ≡ false) (codes " @") place sign p.line) refl refl
   where
-    sign : All (λ x. is_newline x ≡ false) (codes " @ ")
+    sign : All (λ x. is_newline x ≡ false) (codes " @")
     sign zero d lt = refl
     sign (suc zero) d lt = refl
-    sign (suc (suc zero)) d lt = refl
-    sign (suc (suc (suc k))) d lt = absurd (omega arith)
+    sign (suc (suc k)) d lt = absurd (omega arith)
 
 -- ---- the first word of a line
 

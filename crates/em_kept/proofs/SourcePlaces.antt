@@ -3,19 +3,18 @@ use Rattle.std.proofs.Common.{◌≡◌, ℕ, ◌+◌, ◌-◌, ◌^◌, ◌<◌
 use Rattle.std.proofs.Common.{length, drop, refl, sym, ap, ◌∙◌, arith, inl, inr, codes, length-append}
 use Rattle.std.specs.Prelude.{◌==◌, ◌&&◌, ◌||◌, if◌then◌else◌, slice_index, decimal}
 use Rattle.std.specs.List.{All}
-use Rattle.std.specs.Int.{w64, to_be_bytes}
 use Rattle.std.proofs.lemmas.Bool.{cases_lt, ltb-false, ne_eqb, or_parts, or_from}
 use Rattle.std.proofs.lemmas.List.{get_or_append_left, get_or-append-add}
 use Rattle.std.proofs.lemmas.List.Elements.{All-append}
 use Rattle.em_text.specs.Lines.{is_newline}
 use Rattle.em_text.specs.Words.{is_blank}
-use Rattle.em_text.specs.Writer.{hex_text}
 use Rattle.em_line.specs.Parts.{begins_at, stands_at}
+use Rattle.em_kept.specs.Digits.{number_digits}
 use Rattle.em_kept.specs.Source.{Source, unknown, line, counter, IsPlain, is_control, is_replaced, last_of, place_of}
 use Rattle.em_kept.specs.Source.{shown, shown_at}
 use Rattle.em_kept.specs.ReadBack.{IsTypedSource}
-use Rattle.em_kept.proofs.DigitLaws.{bytes_fit, quiet_decimal, quiet_hex, solid_decimal, some_decimal}
-use Rattle.em_kept.proofs.EventWords.{word_64}
+use Rattle.em_kept.proofs.DigitLaws.{quiet_decimal, quiet_number, solid_decimal, some_decimal}
+use Rattle.em_kept.proofs.EventWords.{number_word}
 use Rattle.em_kept.proofs.ShownNames.{length_shown, shown_index, shown_plain}
 use Rattle.em_kept.proofs.PartsOfLines.{BeginsNone, EndsWell, IsPlace, IsPlaceIn, Lacks, all_literal, all_quiet}
 use Rattle.em_kept.proofs.PartsOfLines.{and_no, begins_none, ends_behind, is_quiet, no_hash, no_newline, solid_of, word_ends}
@@ -131,15 +130,16 @@ line_is_place name number h =
           (all_quiet _ rest no_newline quiet);
     }
 
-counter_is_place : (at : ℕ) → IsPlace (codes "0x" ++ hex_text (to_be_bytes w64 at))
-counter_is_place at =
-    let digits = hex_text (to_be_bytes w64 at) in
+counter_is_place : (at : ℕ) → at < 2 ^ 64 → IsPlace (codes "0x" ++ number_digits at)
+counter_is_place at h =
+    let digits = number_digits at in
+    let is = number_word at h in
     let quiet : All (λ x. is_quiet x ≡ true) (codes "0x" ++ digits) =
     All-append (λ x. is_quiet x ≡ true) (codes "0x") digits (all_literal (codes "0x") refl)
-    (quiet_hex (to_be_bytes w64 at) (bytes_fit 8 at)) in
+    (quiet_number at) in
     record {
       solid = solid_of 48 (120 ∷ digits) refl
-          (ends_behind (codes "0x") digits (word_ends digits (word_64 at).solid (word_64 at).some));
+          (ends_behind (codes "0x") digits (word_ends digits is.solid is.some));
       hash = begins_none 35 (codes "0x" ++ digits) (all_quiet _ (codes "0x" ++ digits) no_hash quiet);
       line = all_quiet _ (codes "0x" ++ digits) no_newline quiet;
     }
@@ -147,7 +147,7 @@ counter_is_place at =
 pub source_is_place : (source : Source) → IsTypedSource source → IsPlaceIn (place_of source)
 source_is_place unknown h = tt
 source_is_place (line file number) h = line_is_place (last_of file) number h
-source_is_place (counter at) h = counter_is_place at
+source_is_place (counter at) h = counter_is_place at h
 
 -- ---- a plain name
 

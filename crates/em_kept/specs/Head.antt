@@ -1,16 +1,20 @@
 -- What a kept run begins with.
 use Rattle.std.specs.Prelude.{ℕ, Bool, ◌==◌, if◌then◌else◌, List, [], ◌∷◌, ◌++◌, codes}
-use Rattle.std.specs.Int.{w16, to_be_bytes}
+use Rattle.std.specs.Int.{w16, w64, to_be_bytes}
 use Rattle.std.specs.List.{flat_map, list_all, range_with_len}
 use Rattle.em_eeprom.specs.Eeprom.{mac_of, word_at, words_of_mac}
 use Rattle.em_regs.specs.declared.profile.Profile.{Profile}
 use Rattle.em_regs.specs.declared.profile.Profile.TheVariants.{Table, Adapter}
 use Rattle.em_text.specs.Writer.{hex_line_text, hex_text}
-use Rattle.em_kept.specs.Kept.{address_digits, numbers_behind}
+use Rattle.em_kept.specs.Kept.{numbers_behind}
 
 -- the address, and the end of the line
 abbrev pub mac_text : List ℕ → List ℕ
 mac_text mac = codes " --mac " ++ hex_line_text mac
+
+-- an address in 16 digits
+abbrev pub address_digits : ℕ → List ℕ
+address_digits addr = hex_text (to_be_bytes w64 addr)
 
 -- where memory begins
 abbrev pub marked_base_text : ℕ → List ℕ

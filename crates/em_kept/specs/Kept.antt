@@ -1,7 +1,6 @@
 -- The lines that are kept of a run.
 use Rattle.std.specs.Prelude.{ℕ, Bool, true, false, ◌-◌, ◌*◌, ◌/◌, ◌%◌, min, ◌==◌, ◌&&◌, nat_le, if◌then◌else◌}
 use Rattle.std.specs.Prelude.{List, [], ◌∷◌, ◌++◌, length, replicate, codes, decimal}
-use Rattle.std.specs.Int.{w64, to_be_bytes}
 use Rattle.std.specs.List.{flat_map}
 use Rattle.em_step.specs.Event.{Event, reads, writes, pokes, arrives, links, receives, transmits}
 use Rattle.em_step.specs.declared.event.Answer.{Answer}
@@ -11,13 +10,10 @@ use Rattle.em_step.specs.declared.refusal.Refusal.TheVariants.{Memory}
 use Rattle.em_step.specs.Refusal.{name_of}
 use Rattle.em_text.specs.Writer.{hex_text, value_digits}
 use Rattle.em_output.specs.Output.{reason_text}
+use Rattle.em_kept.specs.Digits.{number_digits}
 use Rattle.em_kept.specs.Source.{Source, end_text, place_of, placed}
 
 -- ---- what a line says
-
--- an address in 16 digits
-abbrev pub address_digits : ℕ → List ℕ
-address_digits addr = hex_text (to_be_bytes w64 addr)
 
 -- a number behind words
 abbrev pub number_behind : List ℕ → ℕ → List ℕ
@@ -33,9 +29,9 @@ octets_behind words octets = words ++ hex_text octets
 
 -- an event, as em_line reads it
 abbrev pub event_words : Event → List ℕ
-event_words (reads o) = codes "r " ++ value_digits o
-event_words (writes o v) = codes "w " ++ (value_digits o ++ (codes " " ++ value_digits v))
-event_words (pokes a octets) = octets_behind (codes "poke " ++ (address_digits a ++ codes " ")) octets
+event_words (reads o) = codes "r " ++ number_digits o
+event_words (writes o v) = codes "w " ++ (number_digits o ++ (codes " " ++ number_digits v))
+event_words (pokes a octets) = octets_behind (codes "poke " ++ (number_digits a ++ codes " ")) octets
 event_words (arrives octets) = octets_behind (codes "arrive ") octets
 event_words (links up) = if up then codes "link up" else codes "link down"
 event_words receives = codes "rx"
@@ -47,7 +43,7 @@ back_words asked = number_behind (codes "back ") asked
 
 -- an event in a comment: of octets how many they are
 abbrev pub told_words : Event → List ℕ
-told_words (pokes a octets) = codes "poke " ++ (address_digits a ++ number_behind (codes " length ") (length octets))
+told_words (pokes a octets) = codes "poke " ++ (number_digits a ++ number_behind (codes " length ") (length octets))
 told_words (arrives octets) = number_behind (codes "arrive length ") (length octets)
 told_words e = event_words e
 
@@ -68,7 +64,7 @@ refusal_words refusal = codes "refused " ++ name_of refusal
 
 -- behind what is said
 abbrev pub expected : List ℕ → List ℕ
-expected answer = codes " = " ++ answer
+expected answer = codes " =" ++ answer
 
 -- ---- a line
 

@@ -1,3 +1,4 @@
+pub mod Digits
 pub mod Source
 pub mod Kept
 pub mod Head

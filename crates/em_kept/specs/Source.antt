@@ -1,10 +1,9 @@
 -- Where a call comes from, and how a line says that.
 use Rattle.std.specs.Prelude.{◌≡◌, ℕ, Bool, false, not, ◌-◌, ◌<◌, ◌≤◌, ◌==◌, ◌||◌, ◌&&◌, nat_lt, if◌then◌else◌}
 use Rattle.std.specs.Prelude.{List, [], ◌++◌, length, drop, map, slice_index, codes, decimal, Option, Some, None}
-use Rattle.std.specs.Int.{w64, to_be_bytes}
-use Rattle.std.specs.List.{list_all, range_with_len}
-use Rattle.em_text.specs.Writer.{hex_text}
+use Rattle.std.specs.List.{range_with_len}
 use Rattle.em_line.specs.Parts.{stands_at}
+use Rattle.em_kept.specs.Digits.{number_digits}
 use Rattle.em_kept.specs.declared.source.Source.{Source as Lent}
 use Rattle.em_kept.specs.declared.source.Source.TheVariants as lent
 
@@ -44,9 +43,9 @@ shown_from name at n = map (shown_at name) (range_with_len at n)
 abbrev pub shown : List ℕ → List ℕ
 shown name = shown_from name 0 (length name)
 
--- nothing of it is replaced
-abbrev pub is_shown : List ℕ → Bool
-is_shown name = list_all (λ at. not (is_replaced name at)) (range_with_len 0 (length name))
+-- an octet that is replaced nowhere: no control octet, no space and no hash
+abbrev pub is_solid : ℕ → Bool
+is_solid octet = not (is_control octet || (octet == 32 || octet == 35))
 
 -- the last 4,096 octets
 abbrev pub last_of : List ℕ → List ℕ
@@ -66,11 +65,11 @@ line_place file number = shown (last_of file) ++ (codes ":" ++ decimal number)
 abbrev pub place_of : Source → Option (List ℕ)
 place_of unknown = None
 place_of (line file number) = Some (line_place file number)
-place_of (counter at) = Some (codes "0x" ++ hex_text (to_be_bytes w64 at))
+place_of (counter at) = Some (codes "0x" ++ number_digits at)
 
 abbrev pub placed : Option (List ℕ) → List ℕ
 placed None = []
-placed (Some place) = codes " @ " ++ place
+placed (Some place) = codes " @" ++ place
 
 -- and the end of the line
 abbrev pub end_text : Source → List ℕ
@@ -84,4 +83,4 @@ abbrev pub named_text : List ℕ → ℕ → List ℕ
 named_text name number = shown name ++ line_number_text number
 
 abbrev pub place_text : List ℕ → ℕ → List ℕ
-place_text file number = codes " @ " ++ named_text (last_of file) number
+place_text file number = codes " @" ++ named_text (last_of file) number

@@ -16,23 +16,23 @@ pub(crate) fn write_answer<W: Write>(writer: &mut W, answer: Answer) -> Result<(
     ensures writes { Writes (W.contents writer.old) (W.contents writer.new) result (expected (answer_words answer)) }
 {
     match answer {
-        Answer::Done => write_whole(writer, b" = ok"),
-        Answer::Value(value) => write_pieces(writer, &[b" = ", &value_digits(value)]),
-        Answer::Idle => write_whole(writer, b" = idle"),
-        Answer::Wrote { index } => write_number(writer, b" = wrote ", u64::from(index)),
-        Answer::Fetched { index } => write_number(writer, b" = fetched ", u64::from(index)),
+        Answer::Done => write_whole(writer, b" =ok"),
+        Answer::Value(value) => write_pieces(writer, &[b" =", &value_digits(value)]),
+        Answer::Idle => write_whole(writer, b" =idle"),
+        Answer::Wrote { index } => write_number(writer, b" =wrote ", u64::from(index)),
+        Answer::Fetched { index } => write_number(writer, b" =fetched ", u64::from(index)),
         Answer::Sent { index, octets } => {
             write_numbers(
                 writer,
-                b" = sent ",
+                b" =sent ",
                 u64::from(index),
                 b" ",
                 u64::from(octets),
             )
         }
-        Answer::Stored => write_whole(writer, b" = stored"),
+        Answer::Stored => write_whole(writer, b" =stored"),
         Answer::Dropped(reason) => {
-            write_pieces(writer, &[b" = dropped ", reason_name(reason).as_bytes()])
+            write_pieces(writer, &[b" =dropped ", reason_name(reason).as_bytes()])
         }
     }
 }
@@ -41,7 +41,7 @@ pub(crate) fn write_answer<W: Write>(writer: &mut W, answer: Answer) -> Result<(
 pub(crate) fn write_refusal<W: Write>(writer: &mut W, refusal: Refusal) -> Result<(), WriteFailed>
     ensures writes { Writes (W.contents writer.old) (W.contents writer.new) result (expected (refusal_words refusal)) }
 {
-    write_pieces(writer, &[b" = refused ", refusal.name().as_bytes()])
+    write_pieces(writer, &[b" =refused ", refusal.name().as_bytes()])
 }
 
 /// Writes a number in decimal digits behind words.

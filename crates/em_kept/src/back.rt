@@ -83,6 +83,6 @@ fn write_back_line<W: Write>(
     ensures writes { Writes (W.contents writer.old) (W.contents writer.new) result
         (text_of (back_line asked taken (plain source.entry))) }
 {
-    write_numbers(writer, b"back ", asked, b" = back ", taken)?;
+    write_numbers(writer, b"back ", asked, b" =back ", taken)?;
     write_end(writer, source)
 }

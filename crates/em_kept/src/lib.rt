@@ -1,5 +1,5 @@
 //! A run of a machine, kept as lines of the script language while it happens: each event with its answer and with the
-//! place in its caller's text, each refusal, and steps back. [docs/kept.md](../../../docs/kept.md) has the lines.
+//! place in its caller's text, each refusal, and steps back. [docs/c-library.md](../../../docs/c-library.md) has the lines.
 //!
 //! Played again from the settings that the first line has, the lines lead to the same machine, by the same answers.
 //!

@@ -1,14 +1,14 @@
 //! The lines of events.
 ghost use Rattle.std.specs.Prelude.{◌≡◌, ◌++◌};
 ghost use Rattle.std.specs.List.{flat_map};
-ghost use Rattle.em_step.specs.Event.{arrives, plain, pokes};
+ghost use Rattle.em_step.specs.Event.{arrives, plain, pokes, reads, writes};
 ghost use Rattle.em_text.specs.Writer.{Writes};
 ghost use Rattle.em_kept.specs.Source as sources;
 ghost use Rattle.em_kept.specs.Kept.{answer_words, behind_text, comment_words, event_text, event_words, has_line};
 ghost use Rattle.em_kept.specs.Kept.{octets_behind, refusal_words, refused_text, refused_words, told_words};
 
 use crate::answer::{write_answer, write_number, write_refusal};
-use crate::digits::{address_digits, value_digits};
+use crate::digits::{MOST_DIGITS, number_digits, put_behind};
 use crate::source::{Source, write_end};
 use em_step::{Answer, Event, Refusal};
 use em_text::{WriteFailed, write_octets, write_pieces, write_whole};
@@ -17,6 +17,9 @@ use std::io::Write;
 
 /// The most octets that an event takes: a frame of this length.
 const MOST_OCTETS: usize = 20_000;
+
+/// Room for what a line says of an access: a letter, and two numbers of up to 16 digits, a space before each.
+const ACCESS: usize = 35;
 
 /// Writes the line of an event that was performed: what it was, its answer, and where its call comes from.
 pub fn write_event<W: Write>(
@@ -116,22 +119,46 @@ fn write_said<W: Write>(writer: &mut W, event: Event<'_>) -> Result<(), WriteFai
     ensures writes { Writes (W.contents writer.old) (W.contents writer.new) result (event_words (plain event.entry)) }
 {
     match event {
-        Event::Read(offset) => write_pieces(writer, &[b"r ", &value_digits(offset)]),
-        Event::Write(offset, value) => {
-            write_pieces(
-                writer,
-                &[b"w ", &value_digits(offset), b" ", &value_digits(value)],
-            )
-        }
-        Event::Poke(addr, octets) => {
-            write_octets_behind(writer, &[b"poke ", &address_digits(addr), b" "], octets)
-        }
+        Event::Read(offset) => write_read(writer, offset),
+        Event::Write(offset, value) => write_written(writer, offset, value),
+        Event::Poke(addr, octets) => write_poke(writer, addr, octets),
         Event::Arrive(frame) => write_octets_behind(writer, &[b"arrive "], frame),
         Event::Link(true) => write_whole(writer, b"link up"),
         Event::Link(false) => write_whole(writer, b"link down"),
         Event::RxStep => write_whole(writer, b"rx"),
         Event::TxStep => write_whole(writer, b"tx"),
     }
+}
+
+/// Writes that a register was read, all at once.
+#[inline(always)]
+fn write_read<W: Write>(writer: &mut W, offset: u32) -> Result<(), WriteFailed>
+    ensures writes { Writes (W.contents writer.old) (W.contents writer.new) result (event_words (reads offset)) }
+{
+    let mut line = [0; ACCESS];
+    let at = put_behind(b"r ", u64::from(offset), &mut line, ACCESS);
+    write_whole(writer, &line[at..])
+}
+
+/// Writes that a register was written, all at once.
+#[inline(always)]
+fn write_written<W: Write>(writer: &mut W, offset: u32, value: u32) -> Result<(), WriteFailed>
+    ensures writes { Writes (W.contents writer.old) (W.contents writer.new) result (event_words (writes offset value)) }
+{
+    let mut line = [0; ACCESS];
+    let value_at = put_behind(b" ", u64::from(value), &mut line, ACCESS);
+    let at = put_behind(b"w ", u64::from(offset), &mut line, value_at);
+    write_whole(writer, &line[at..])
+}
+
+/// Writes that octets were written to guest memory.
+fn write_poke<W: Write>(writer: &mut W, addr: u64, octets: &[u8]) -> Result<(), WriteFailed>
+    ensures writes { Writes (W.contents writer.old) (W.contents writer.new) result
+        (event_words (pokes addr octets.now)) }
+{
+    let mut room = [0; MOST_DIGITS];
+    let addr = number_digits(addr, &mut room);
+    write_octets_behind(writer, &[b"poke ", addr, b" "], octets)
 }
 
 /// Writes octets in hexadecimal digits behind words.
@@ -165,10 +192,9 @@ fn write_told_poke<W: Write>(writer: &mut W, addr: u64, octets: &[u8]) -> Result
 {
     let mut digits = Buffer::new();
     let number = digits.format(octets.len()).as_bytes();
-    write_pieces(
-        writer,
-        &[b"poke ", &address_digits(addr), b" length ", number],
-    )
+    let mut room = [0; MOST_DIGITS];
+    let addr = number_digits(addr, &mut room);
+    write_pieces(writer, &[b"poke ", addr, b" length ", number])
 }
 
 /// Writes how many octets a frame has.

@@ -3,12 +3,11 @@ ghost use Rattle.std.specs.Prelude.{◌≡◌, ◌<◌, ◌++◌, length};
 ghost use Rattle.std.specs.List.{list_all, range_with_len};
 ghost use Rattle.em_text.specs.Writer.{Writes};
 ghost use Rattle.em_line.specs.Parts.{begins_at};
-ghost use Rattle.em_kept.specs.Source.{end_text, is_replaced, is_shown, last_of, line_number_text, named_text};
+ghost use Rattle.em_kept.specs.Source.{counter, end_text, is_replaced, is_solid, last_of, line_number_text, named_text};
 ghost use Rattle.em_kept.specs.Source.{place_text, plain, shown, shown_at};
 
-use crate::digits::address_digits;
-use em_text::{WriteFailed, write_pieces, write_whole};
-use itoa::Buffer;
+use crate::digits::{MOST_DIGITS, number_digits};
+use em_text::{WriteFailed, write_number_line, write_pieces, write_whole};
 use std::io::Write;
 
 /// The most octets of a file's name that a line has: the longest path that Linux takes.
@@ -36,7 +35,7 @@ pub(crate) fn write_end<W: Write>(writer: &mut W, source: Source<'_>) -> Result<
     match source {
         Source::Unknown => write_whole(writer, b"\n"),
         Source::Line { file, line } => write_place(writer, file, line),
-        Source::Counter(at) => write_pieces(writer, &[b" @ 0x", &address_digits(at), b"\n"]),
+        Source::Counter(at) => write_counter(writer, at),
     }
 }
 
@@ -44,8 +43,16 @@ pub(crate) fn write_end<W: Write>(writer: &mut W, source: Source<'_>) -> Result<
 fn write_place<W: Write>(writer: &mut W, file: &[u8], line: u32) -> Result<(), WriteFailed>
     ensures writes { Writes (W.contents writer.old) (W.contents writer.new) result (place_text file.now line) }
 {
-    write_whole(writer, b" @ ")?;
+    write_whole(writer, b" @")?;
     write_named(writer, last_of(file), line)
+}
+
+/// Writes a program counter, and the end of a line.
+fn write_counter<W: Write>(writer: &mut W, at: u64) -> Result<(), WriteFailed>
+    ensures writes { Writes (W.contents writer.old) (W.contents writer.new) result (end_text (counter at)) }
+{
+    let mut room = [0; MOST_DIGITS];
+    write_pieces(writer, &[b" @0x", number_digits(at, &mut room), b"\n"])
 }
 
 /// Writes a name with the number of a line, and the end of a line.
@@ -60,19 +67,33 @@ fn write_named<W: Write>(writer: &mut W, name: &[u8], line: u32) -> Result<(), W
 fn write_line_number<W: Write>(writer: &mut W, line: u32) -> Result<(), WriteFailed>
     ensures writes { Writes (W.contents writer.old) (W.contents writer.new) result (line_number_text line) }
 {
-    let mut digits = Buffer::new();
-    write_pieces(writer, &[b":", digits.format(line).as_bytes(), b"\n"])
+    write_number_line(writer, b":", u64::from(line))
 }
 
-/// Writes a name with a `?` for each octet that cannot stand in a line: at once where there is none.
-#[tactic(auto, using(crate::proofs::ShownNames::plain_name))]
+/// Writes a name with a `?` for each octet that cannot stand in a line: at once where each can stand anywhere.
 fn write_name<W: Write>(writer: &mut W, name: &[u8]) -> Result<(), WriteFailed>
     ensures writes { Writes (W.contents writer.old) (W.contents writer.new) result (shown name.now) }
 {
-    if is_shown(name) {
+    if are_solid(name) {
         return write_whole(writer, name);
     }
     write_shown(writer, name)
+}
+
+/// Whether each octet of a name can stand anywhere in a line.
+#[inline(always)]
+fn are_solid(name: &[u8]) -> bool
+    ensures { result ≡ list_all is_solid name.now }
+{
+    name.iter().all(|octet| is_solid(*octet))
+}
+
+/// Whether an octet can stand anywhere in a line: it is no control octet, no space and no hash.
+#[inline(always)]
+fn is_solid(octet: u8) -> bool
+    ensures { result ≡ is_solid octet }
+{
+    !matches!(octet, 0..=32 | b'#' | 127)
 }
 
 /// The last octets of a name.
@@ -80,13 +101,6 @@ fn last_of(file: &[u8]) -> &[u8]
     ensures { result.now ≡ last_of file.now }
 {
     &file[file.len().saturating_sub(MOST_NAME)..]
-}
-
-/// Whether each octet of a name can stand in a line.
-fn is_shown(name: &[u8]) -> bool
-    ensures { result ≡ is_shown name.now }
-{
-    (0..name.len()).all(|at| !is_replaced(name, at))
 }
 
 /// Writes a name octet by octet, with a `?` for each that cannot stand in a line.

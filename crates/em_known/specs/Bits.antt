@@ -70,6 +70,9 @@ known_bits c reg.Ptc1023 wanted here = of_sending c
 known_bits c reg.Ptc1522 wanted here = of_sending c
 known_bits c reg.Mptc wanted here = of_sending c
 known_bits c reg.Bptc wanted here = of_sending c
+known_bits c reg.Totl wanted here = of_sending c
+known_bits c reg.Toth wanted here = of_sending c
+known_bits c reg.Tpt wanted here = of_sending c
 known_bits c reg.Mpc wanted here = of_receiving c
 known_bits c reg.Prc64 wanted here = of_receiving c
 known_bits c reg.Prc127 wanted here = of_receiving c
@@ -85,6 +88,9 @@ known_bits c reg.Gorch wanted here = of_receiving c
 known_bits c reg.Rnbc wanted here = of_receiving c
 known_bits c reg.Ruc wanted here = of_receiving c
 known_bits c reg.Roc wanted here = of_receiving c
+known_bits c reg.Torl wanted here = of_receiving c
+known_bits c reg.Torh wanted here = of_receiving c
+known_bits c reg.Tpr wanted here = of_receiving c
 known_bits c _ wanted here = 0
 
 -- it differs in no other bits than those

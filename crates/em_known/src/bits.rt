@@ -56,7 +56,10 @@ pub fn known_bits(causes: Causes, reg: Reg, wanted: u32, here: u32) -> u32
         | Reg::Ptc1023
         | Reg::Ptc1522
         | Reg::Mptc
-        | Reg::Bptc => when(causes.tdt, ALL),
+        | Reg::Bptc
+        | Reg::Totl
+        | Reg::Toth
+        | Reg::Tpt => when(causes.tdt, ALL),
         Reg::Mpc
         | Reg::Prc64
         | Reg::Prc127
@@ -71,7 +74,10 @@ pub fn known_bits(causes: Causes, reg: Reg, wanted: u32, here: u32) -> u32
         | Reg::Gorch
         | Reg::Rnbc
         | Reg::Ruc
-        | Reg::Roc => when(causes.enabled, ALL),
+        | Reg::Roc
+        | Reg::Torl
+        | Reg::Torh
+        | Reg::Tpr => when(causes.enabled, ALL),
         _ => 0,
     }
 }

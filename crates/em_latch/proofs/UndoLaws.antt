@@ -44,39 +44,39 @@ newer_growth {gs = gs} older newer = record {
 }
 
 -- ---- how many octets a growth takes
-pub octets_for-one : (by : ℕ) → by < 0x100 → octets_for by ≡ 1
-octets_for-one by h = let t : nat_lt by 0x100 ≡ true = grind (arith, nat_tests) in rw t refl
+pub octets_for-one : (by : ℕ) → by < 2 → octets_for by ≡ 1
+octets_for-one by h = let t : nat_lt by 2 ≡ true = grind (arith, nat_tests) in rw t refl
 
-pub octets_for-two : (by : ℕ) → 0x100 ≤ by → by < 0x1_0000 → octets_for by ≡ 2
-octets_for-two by h l =
-    let t : nat_lt by 0x100 ≡ false = grind (arith, nat_tests) in
+pub octets_for-three : (by : ℕ) → 2 ≤ by → by < 0x1_0000 → octets_for by ≡ 3
+octets_for-three by h l =
+    let t : nat_lt by 2 ≡ false = grind (arith, nat_tests) in
     let u : nat_lt by 0x1_0000 ≡ true = grind (arith, nat_tests) in
     rw (t, u) refl
 
-pub octets_for-four : (by : ℕ) → 0x1_0000 ≤ by → octets_for by ≡ 4
-octets_for-four by h =
-    let t : nat_lt by 0x100 ≡ false = grind (arith, nat_tests) in
+pub octets_for-five : (by : ℕ) → 0x1_0000 ≤ by → octets_for by ≡ 5
+octets_for-five by h =
+    let t : nat_lt by 2 ≡ false = grind (arith, nat_tests) in
     let u : nat_lt by 0x1_0000 ≡ false = grind (arith, nat_tests) in
     rw (t, u) refl
 
-pub octets_for-bounds : (by : ℕ) → (1 ≤ octets_for by) × (octets_for by ≤ 4)
-octets_for-bounds by = elim (cases_lt by 0x100) [
+pub octets_for-bounds : (by : ℕ) → (1 ≤ octets_for by) × (octets_for by ≤ 5)
+octets_for-bounds by = elim (cases_lt by 2) [
   | inl h ↦ (omega (arith, octets_for-one by h), omega (arith, octets_for-one by h))
   | inr h ↦ elim (cases_lt by 0x1_0000) [
-    | inl l ↦ (omega (arith, octets_for-two by h l), omega (arith, octets_for-two by h l))
-    | inr l ↦ (omega (arith, octets_for-four by l), omega (arith, octets_for-four by l))
+    | inl l ↦ (omega (arith, octets_for-three by h l), omega (arith, octets_for-three by h l))
+    | inr l ↦ (omega (arith, octets_for-five by l), omega (arith, octets_for-five by l))
   ]
 ]
 
 -- a lesser growth takes no more
 pub octets_for-le : (by most : ℕ) → by ≤ most → octets_for by ≤ octets_for most
-octets_for-le by most le = elim (cases_lt most 0x100) [
+octets_for-le by most le = elim (cases_lt most 2) [
   | inl h ↦ omega (arith, octets_for-one most h, octets_for-one by (omega arith))
   | inr h ↦ elim (cases_lt most 0x1_0000) [
-    | inl l ↦ elim (cases_lt by 0x100) [
-      | inl k ↦ omega (arith, octets_for-two most h l, octets_for-one by k)
-      | inr k ↦ omega (arith, octets_for-two most h l, octets_for-two by k (omega arith))
+    | inl l ↦ elim (cases_lt by 2) [
+      | inl k ↦ omega (arith, octets_for-three most h l, octets_for-one by k)
+      | inr k ↦ omega (arith, octets_for-three most h l, octets_for-three by k (omega arith))
     ]
-    | inr l ↦ omega (arith, octets_for-four most l, (octets_for-bounds by).1)
+    | inr l ↦ omega (arith, octets_for-five most l, (octets_for-bounds by).1)
   ]
 ]

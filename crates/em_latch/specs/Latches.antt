@@ -24,6 +24,7 @@ use Rattle.std.specs.Prelude.{
 use Rattle.std.specs.FinMap as map
 use Rattle.em_regs.specs.declared.reg.Reg.{Reg}
 use Rattle.em_regs.specs.declared.reg.Reg.TheVariants.{Icr, Ics, Ims, Imc, Gorcl, Gorch, Gotcl, Gotch}
+use Rattle.em_regs.specs.declared.reg.Reg.TheVariants.{Torl, Torh, Totl, Toth}
 use Rattle.em_regs.specs.declared.table.Kind.{Kind}
 use Rattle.em_regs.specs.declared.table.Kind.TheVariants.{Interrupt, Counter}
 use Rattle.em_regs.specs.Table.{row_of, offset_of, is_counter}
@@ -93,8 +94,12 @@ after_read m Ims = m
 after_read m Imc = m
 after_read m Gorcl = m
 after_read m Gotcl = m
+after_read m Torl = m
+after_read m Totl = m
 after_read m Gorch = after_pair_clear m Gorcl Gorch
 after_read m Gotch = after_pair_clear m Gotcl Gotch
+after_read m Torh = after_pair_clear m Torl Torh
+after_read m Toth = after_pair_clear m Totl Toth
 after_read m reg = map.insert m (offset_of reg) 0
 
 -- causes that are set beside those that were

@@ -2,7 +2,7 @@
 ghost use Rattle.std.specs.Prelude.{◌≡◌, ◌≢◌, ◌+◌, ◌≤◌, ◌<◌, ◌↔◌, IsTrue, Some, slice_index};
 ghost use Rattle.std.specs.FinMap as map;
 ghost use Rattle.em_regs.specs.Table.{offset_of};
-ghost use Rattle.em_regs.specs.Storage.{Registers};
+ghost use Rattle.em_regs.specs.Storage.{Registers, words_at};
 ghost use Rattle.em_regs.specs.RegFile as registers;
 ghost use Rattle.em_latch.specs.Storage.{offsets};
 ghost use Rattle.em_latch.specs.Latches.{fresh, is_latched, IsLatched, IsWord, gives, after_read, after_write};
@@ -56,6 +56,21 @@ impl Latches {
         Latches { words: [0; WORDS] }
     }
 
+    /// Causes, mask and counters with these words, each at its place.
+    pub fn of_words(words: [u32; WORDS]) -> Latches
+        ensures { result ≡ words_at offsets words }
+    {
+        Latches { words }
+    }
+
+    /// All words: the causes, their mask, and each counter's at the place that its row names.
+    pub fn words(&self) -> &[u32; WORDS]
+        ensures words { result.now ≡ registers.words_of offsets self.now }
+        ensures latches { words_at offsets result.now ≡ self.now }
+    {
+        &self.words
+    }
+
     /// The same causes, mask and counters once more.
     pub fn copy(&self) -> Latches
         ensures { result ≡ self.now }
@@ -83,8 +98,8 @@ impl Latches {
         }
     }
 
-    /// Reads a register. A read of ICR or of a counter clears it; of GORC and GOTC, the read of the
-    /// high half clears both halves, and that of the low half none.
+    /// Reads a register. A read of ICR or of a counter clears it; of a pair, the read of the high half clears both
+    /// halves, and that of the low half none.
     #[inline(always)]
     pub fn read(&mut self, reg: Reg) -> (u32, LatchUndo)
         requires { IsLatched reg }
@@ -95,9 +110,11 @@ impl Latches {
         let mut undo = LatchUndo::none();
         let value = match reg {
             Reg::Imc | Reg::Ics => 0,
-            Reg::Ims | Reg::Gorcl | Reg::Gotcl => self.word(reg),
+            Reg::Ims | Reg::Gorcl | Reg::Gotcl | Reg::Torl | Reg::Totl => self.word(reg),
             Reg::Gorch => self.clear_both(Reg::Gorcl, Reg::Gorch, &mut undo),
             Reg::Gotch => self.clear_both(Reg::Gotcl, Reg::Gotch, &mut undo),
+            Reg::Torh => self.clear_both(Reg::Torl, Reg::Torh, &mut undo),
+            Reg::Toth => self.clear_both(Reg::Totl, Reg::Toth, &mut undo),
             _ => self.clear(reg, &mut undo),
         };
         (value, undo)
@@ -172,6 +189,8 @@ impl Latches {
         match counter {
             Counter::Gorc => self.count_pair(Reg::Gorcl, Reg::Gorch, by, undo),
             Counter::Gotc => self.count_pair(Reg::Gotcl, Reg::Gotch, by, undo),
+            Counter::Tor => self.count_pair(Reg::Torl, Reg::Torh, by, undo),
+            Counter::Tot => self.count_pair(Reg::Totl, Reg::Toth, by, undo),
             _ => {
                 let reg = counter.reg();
                 let step = by.min(u32::MAX - self.word(reg));
@@ -243,13 +262,13 @@ impl Latches {
         undo.push(Growth { place, by });
     }
 
-    /// Stores a word, and adds its growth to a record: four octets at most.
+    /// Stores a word, and adds its growth to a record: five octets at most.
     #[inline(always)]
     fn replace(&mut self, reg: Reg, value: u32, undo: &mut LatchUndo)
         requires word { IsWord reg }
-        requires room { octets_of undo.old + 4 ≤ MOST_OCTETS }
+        requires room { octets_of undo.old + 5 ≤ MOST_OCTETS }
         ensures state { self.new ≡ map.insert self.old (offset_of reg) value }
-        ensures octets { octets_of undo.new ≤ octets_of undo.old + 4 }
+        ensures octets { octets_of undo.new ≤ octets_of undo.old + 5 }
         ensures reverses { (base : Registers) → Reverses base self.old undo.old → Reverses base self.new undo.new }
     {
         let by = value.wrapping_sub(self.word(reg));
@@ -260,7 +279,7 @@ impl Latches {
     #[inline(always)]
     fn clear(&mut self, reg: Reg, undo: &mut LatchUndo) -> u32
         requires word { IsWord reg }
-        requires room { octets_of undo.old + 4 ≤ MOST_OCTETS }
+        requires room { octets_of undo.old + 5 ≤ MOST_OCTETS }
         ensures value { result ≡ registers.at self.old (offset_of reg) }
         ensures state { self.new ≡ map.insert self.old (offset_of reg) 0 }
         ensures reverses { (base : Registers) → Reverses base self.old undo.old → Reverses base self.new undo.new }

@@ -2,7 +2,7 @@
 ghost use Rattle.std.specs.Prelude.{◌≡◌, ◌+◌, ◌/◌, ◌%◌, ◌≤◌, ◌<◌, ◌↔◌, ◌⊎◌, ◌++◌, ℕ, length, not, take};
 ghost use Rattle.std.specs.Prelude.{IfOk, IfErr, IsErrOf, IsOk, IsTrue, IsSome, IfSome, OnErr, OnOk};
 ghost use Rattle.em_mem.specs.Memory.{IsHeld, IsInOnePage, IsMade, IsMemoryRange, IsMemorySize, IsPageMade};
-ghost use Rattle.em_mem.specs.Memory.{MakesOnly, MorePages, fresh, leaves, part, put, Fits, undo, Reverses};
+ghost use Rattle.em_mem.specs.Memory.{MakesOnly, MorePages, fresh, leaves, part, put, zeros, Fits, undo, Reverses};
 ghost use Rattle.em_mem.specs.OldOctets.{saved};
 ghost use Rattle.em_mem.specs.Pages.{IsPageFrom};
 
@@ -106,6 +106,16 @@ impl GuestMemory {
         ensures most { result ≤ MOST_END }
     {
         self.base + self.size
+    }
+
+    /// Where memory begins, and how many octets it has. What is listed before its first octet is no memory, and zero.
+    pub fn range(&self) -> (u64, u64)
+        ensures base { result.0 ≡ self.now.base }
+        ensures size { result.0 + result.1 ≡ length self.now.octets }
+        ensures range { IsMemoryRange result.0 result.1 }
+        ensures front { take result.0 self.now.octets ≡ zeros result.0 }
+    {
+        (self.base, self.size)
     }
 
     /// Whether the `len` octets from `addr` on lie in memory.

@@ -1,8 +1,9 @@
 -- No two registers have one name.
 use Rattle.std.proofs.Common.{◌≡◌, ℕ, ◌+◌, ◌*◌, ◌-◌, ◌<◌, ◌%◌, ◌&&◌, ◌==◌, nat_lt, nat_le, if◌then◌else◌}
-use Rattle.std.proofs.Common.{inl, inr, List, [], ◌∷◌, Option, Some, None, refl, sym, ap, ◌∙◌, map, arith}
+use Rattle.std.proofs.Common.{inl, inr, List, [], ◌∷◌, Option, Some, None, refl, sym, ap, ◌∙◌, map, arith, true}
 use Rattle.std.proofs.lemmas.Bool.{cases_lt}
-use Rattle.std.specs.Char.{to_ascii_lowercase}
+use Rattle.std.proofs.lemmas.Bool.Decides.{nat_tests}
+use Rattle.std.specs.Char.{is_ascii_digit, to_ascii_lowercase}
 use Rattle.std.specs.Fmt.{digits}
 use Rattle.em_regs.specs.declared.reg.Reg.{Reg}
 use Rattle.em_regs.specs.declared.reg.Reg.TheVariants.{Ctrl, Mta, Ral, Rah, Vfta}
@@ -10,7 +11,7 @@ use Rattle.em_regs.specs.declared.profile.Profile.{Profile}
 use Rattle.em_regs.specs.Table.{IsReg, IsRegOf, stem_of, offset_of, registers, reg_of}
 use Rattle.em_regs.proofs.TableLaws.{same_below, whole_word}
 use Rattle.em_regs.proofs.ProfileLaws.{reg_of-offset_of}
-use Rattle.em_names.specs.Names.{name_of, IsNamed}
+use Rattle.em_names.specs.Names.{begins_with_digit, name_of, IsNamed}
 
 abbrev pub lowered : List ℕ → List ℕ
 lowered word = map to_ascii_lowercase word
@@ -80,3 +81,23 @@ none_named_next p word o none here whole reg h lt n = elim (cases_lt (offset_of 
       let at : offset_of reg ≡ o = omega (arith, whole_word reg) in
       here reg (ap (reg_of p) (sym at) ∙ reg_of-offset_of p reg h.0 h.1) n
 ]
+
+-- ---- no name begins with a digit
+
+abbrev first_of : List ℕ → ℕ
+first_of [] = 0
+first_of (c ∷ cs) = c
+
+-- in lower case each begins with a letter, from 61h on
+first_letter : (reg : Reg) → nat_le 97 (first_of (lowered (name_of reg))) ≡ true
+first_letter Ctrl = refl
+first_letter _ = refl
+
+-- a digit is no letter
+digit_first : (c : ℕ) → is_ascii_digit c ≡ true → nat_le 97 (to_ascii_lowercase c) ≡ true → ⊥
+digit_first c digit letter = grind (arith, nat_tests)
+
+pub no_digit_first : (reg : Reg) (word : List ℕ) → begins_with_digit word ≡ true → IsNamed word reg → ⊥
+no_digit_first reg [] digit named = cc
+no_digit_first reg (c ∷ word) digit named =
+    digit_first c digit (ap (λ text. nat_le 97 (first_of text)) named ∙ first_letter reg)

@@ -44,6 +44,17 @@ abbrev pub eerd : List Row
 eerd = bit (codes "START") 0 ∷ bit (codes "DONE") 4 ∷ field (codes "ADDR") 15 8 Digits ∷
     field (codes "DATA") 31 16 Digits ∷ []
 
+-- the pins of the EEPROM
+abbrev pub eecd : List Row
+eecd = bit (codes "SK") 0 ∷ bit (codes "CS") 1 ∷ bit (codes "DI") 2 ∷ bit (codes "DO") 3 ∷
+    field (codes "FWE") 5 4 Number ∷ bit (codes "REQ") 6 ∷ bit (codes "GNT") 7 ∷ bit (codes "PRES") 8 ∷
+    bit (codes "SIZE") 9 ∷ []
+
+-- a command to the PHY
+abbrev pub mdic : List Row
+mdic = field (codes "DATA") 15 0 Digits ∷ field (codes "REGADD") 20 16 Number ∷ field (codes "PHYADD") 25 21 Number ∷
+    field (codes "OP") 27 26 Number ∷ bit (codes "R") 28 ∷ bit (codes "I") 29 ∷ bit (codes "E") 30 ∷ []
+
 -- of ICR, ICS, IMS and IMC
 abbrev pub causes : List Row
 causes = bit (codes "TXDW") 0 ∷ bit (codes "TXQE") 1 ∷ bit (codes "LSC") 2 ∷ bit (codes "RXSEQ") 3 ∷
@@ -77,6 +88,34 @@ abbrev pub txdctl : List Row
 txdctl = field (codes "PTHRESH") 5 0 Number ∷ field (codes "HTHRESH") 13 8 Number ∷
     field (codes "WTHRESH") 21 16 Number ∷ bit (codes "GRAN") 24 ∷ field (codes "LWTHRESH") 31 25 Number ∷ []
 
+abbrev pub txcw : List Row
+txcw = field (codes "TxConfigWord") 15 0 Digits ∷ bit (codes "TxConfig") 30 ∷ bit (codes "ANE") 31 ∷ []
+
+-- when the receive FIFO lets the sender go on, and stops it
+abbrev pub fcrtl : List Row
+fcrtl = field (codes "RTL") 15 3 Number ∷ bit (codes "XONE") 31 ∷ []
+
+abbrev pub fcrth : List Row
+fcrth = field (codes "RTH") 15 3 Number ∷ []
+
+-- what wakes the host
+abbrev pub wuc : List Row
+wuc = bit (codes "APME") 0 ∷ bit (codes "PME_En") 1 ∷ bit (codes "PME_Status") 2 ∷ bit (codes "APMPME") 3 ∷ []
+
+abbrev pub wufc : List Row
+wufc = bit (codes "LNKC") 0 ∷ bit (codes "MAG") 1 ∷ bit (codes "EX") 2 ∷ bit (codes "MC") 3 ∷ bit (codes "BC") 4 ∷
+    bit (codes "ARP") 5 ∷ bit (codes "IPv4") 6 ∷ bit (codes "IPv6") 7 ∷ bit (codes "FLX0") 16 ∷
+    bit (codes "FLX1") 17 ∷ bit (codes "FLX2") 18 ∷ bit (codes "FLX3") 19 ∷ []
+
+-- management, and the pins of its SMBus
+abbrev pub manc : List Row
+manc = bit (codes "SMBUS_EN") 0 ∷ bit (codes "ASF_EN") 1 ∷ bit (codes "R_ON_FORCE") 2 ∷ bit (codes "RMCP_EN") 8 ∷
+    bit (codes "0298_EN") 9 ∷ bit (codes "IPv4_EN") 10 ∷ bit (codes "IPv6_EN") 11 ∷ bit (codes "SNAP_EN") 12 ∷
+    bit (codes "ARP_EN") 13 ∷ bit (codes "NEIGHBOR_EN") 14 ∷ bit (codes "ARP_RES_EN") 15 ∷
+    bit (codes "TCO_RESET") 16 ∷ bit (codes "RCV_TCO_EN") 17 ∷ bit (codes "REPORT_STATUS") 18 ∷
+    bit (codes "SMB_REQ") 24 ∷ bit (codes "SMB_GNT") 25 ∷ bit (codes "SMB_CLK_IN") 26 ∷
+    bit (codes "SMB_DATA_IN") 27 ∷ bit (codes "SMB_DATA_OUT") 28 ∷ bit (codes "SMB_CLK_OUT") 29 ∷ []
+
 abbrev pub rah : List Row
 rah = field (codes "RAH") 15 0 Digits ∷ field (codes "AS") 17 16 Number ∷ bit (codes "AV") 31 ∷ []
 
@@ -84,7 +123,9 @@ rah = field (codes "RAH") 15 0 Digits ∷ field (codes "AS") 17 16 Number ∷ bi
 abbrev pub table_of : Reg → List Row
 table_of named.Ctrl = ctrl
 table_of named.Status = status
+table_of named.Eecd = eecd
 table_of named.Eerd = eerd
+table_of named.Mdic = mdic
 table_of named.Icr = causes
 table_of named.Ics = causes
 table_of named.Ims = causes
@@ -95,6 +136,12 @@ table_of named.Tipg = tipg
 table_of named.Pba = pba
 table_of named.Rxdctl = rxdctl
 table_of named.Txdctl = txdctl
+table_of named.Txcw = txcw
+table_of named.Fcrtl = fcrtl
+table_of named.Fcrth = fcrth
+table_of named.Wuc = wuc
+table_of named.Wufc = wufc
+table_of named.Manc = manc
 table_of (named.Rah _) = rah
 table_of _ = []
 

@@ -69,6 +69,30 @@ static EERD: [Field; 4] = [
     field!("DATA", 31, 16, Digits),
 ];
 
+/// EECD.
+static EECD: [Field; 9] = [
+    bit!("SK", 0),
+    bit!("CS", 1),
+    bit!("DI", 2),
+    bit!("DO", 3),
+    field!("FWE", 5, 4, Number),
+    bit!("REQ", 6),
+    bit!("GNT", 7),
+    bit!("PRES", 8),
+    bit!("SIZE", 9),
+];
+
+/// MDIC.
+static MDIC: [Field; 7] = [
+    field!("DATA", 15, 0, Digits),
+    field!("REGADD", 20, 16, Number),
+    field!("PHYADD", 25, 21, Number),
+    field!("OP", 27, 26, Number),
+    bit!("R", 28),
+    bit!("I", 29),
+    bit!("E", 30),
+];
+
 /// ICR, ICS, IMS and IMC.
 static CAUSES: [Field; 14] = [
     bit!("TXDW", 0),
@@ -145,6 +169,67 @@ static TXDCTL: [Field; 5] = [
     field!("LWTHRESH", 31, 25, Number),
 ];
 
+/// TXCW.
+static TXCW: [Field; 3] = [
+    field!("TxConfigWord", 15, 0, Digits),
+    bit!("TxConfig", 30),
+    bit!("ANE", 31),
+];
+
+/// FCRTL.
+static FCRTL: [Field; 2] = [field!("RTL", 15, 3, Number), bit!("XONE", 31)];
+
+/// FCRTH.
+static FCRTH: [Field; 1] = [field!("RTH", 15, 3, Number)];
+
+/// WUC.
+static WUC: [Field; 4] = [
+    bit!("APME", 0),
+    bit!("PME_En", 1),
+    bit!("PME_Status", 2),
+    bit!("APMPME", 3),
+];
+
+/// WUFC.
+static WUFC: [Field; 12] = [
+    bit!("LNKC", 0),
+    bit!("MAG", 1),
+    bit!("EX", 2),
+    bit!("MC", 3),
+    bit!("BC", 4),
+    bit!("ARP", 5),
+    bit!("IPv4", 6),
+    bit!("IPv6", 7),
+    bit!("FLX0", 16),
+    bit!("FLX1", 17),
+    bit!("FLX2", 18),
+    bit!("FLX3", 19),
+];
+
+/// MANC.
+static MANC: [Field; 20] = [
+    bit!("SMBUS_EN", 0),
+    bit!("ASF_EN", 1),
+    bit!("R_ON_FORCE", 2),
+    bit!("RMCP_EN", 8),
+    bit!("0298_EN", 9),
+    bit!("IPv4_EN", 10),
+    bit!("IPv6_EN", 11),
+    bit!("SNAP_EN", 12),
+    bit!("ARP_EN", 13),
+    bit!("NEIGHBOR_EN", 14),
+    bit!("ARP_RES_EN", 15),
+    bit!("TCO_RESET", 16),
+    bit!("RCV_TCO_EN", 17),
+    bit!("REPORT_STATUS", 18),
+    bit!("SMB_REQ", 24),
+    bit!("SMB_GNT", 25),
+    bit!("SMB_CLK_IN", 26),
+    bit!("SMB_DATA_IN", 27),
+    bit!("SMB_DATA_OUT", 28),
+    bit!("SMB_CLK_OUT", 29),
+];
+
 /// RAH.
 static RAH: [Field; 3] = [
     field!("RAH", 15, 0, Digits),
@@ -159,7 +244,9 @@ pub fn fields(reg: Reg) -> &'static [Field]
     match reg {
         Reg::Ctrl => &CTRL,
         Reg::Status => &STATUS,
+        Reg::Eecd => &EECD,
         Reg::Eerd => &EERD,
+        Reg::Mdic => &MDIC,
         Reg::Icr | Reg::Ics | Reg::Ims | Reg::Imc => &CAUSES,
         Reg::Rctl => &RCTL,
         Reg::Tctl => &TCTL,
@@ -167,6 +254,12 @@ pub fn fields(reg: Reg) -> &'static [Field]
         Reg::Pba => &PBA,
         Reg::Rxdctl => &RXDCTL,
         Reg::Txdctl => &TXDCTL,
+        Reg::Txcw => &TXCW,
+        Reg::Fcrtl => &FCRTL,
+        Reg::Fcrth => &FCRTH,
+        Reg::Wuc => &WUC,
+        Reg::Wufc => &WUFC,
+        Reg::Manc => &MANC,
         Reg::Rah(_) => &RAH,
         _ => &[],
     }

@@ -4,4 +4,4 @@
 pub mod laws;
 mod phy;
 
-pub use phy::{Phy, PhyUndo, asks_for_interrupt};
+pub use phy::{Phy, PhyUndo, WORDS, asks_for_interrupt};

@@ -6,7 +6,7 @@ use em_mem::Reversible;
 use std::marker::Model;
 
 /// How many words the PHY has.
-const WORDS: usize = 32;
+pub const WORDS: usize = 32;
 
 /// The PHY's own address.
 const ADDRESS: u32 = 1;
@@ -122,6 +122,20 @@ impl Phy {
         words[17] = 0xA800;
         words[20] = 0x0D60;
         Phy { mdic: 0, words }
+    }
+
+    /// A PHY of which MDIC reads so, with these words, those that follow the link as they are without one.
+    pub fn of_words(mdic: u32, words: [u16; WORDS]) -> Phy
+        ensures { result ≡ record { mdic = mdic; words = words } }
+    {
+        Phy { mdic, words }
+    }
+
+    /// All words, those that follow the link as they are without one.
+    pub fn words(&self) -> &[u16; WORDS]
+        ensures { result.now ≡ self.now.words }
+    {
+        &self.words
     }
 
     /// The same PHY once more.

@@ -3,7 +3,7 @@
 -- and six bits of address read. This project's profile: the bus is granted at once, no other command does anything, DO
 -- is 1 where nothing is read, and behind the last word comes the first.
 use Rattle.std.specs.Prelude.{Bool, not, ◌&&◌, ◌==◌, nat_lt, if◌then◌else◌, ℕ, ◌+◌, ◌-◌, ◌*◌, ◌/◌, ◌%◌, ◌^◌}
-use Rattle.std.specs.Prelude.{List, bit_and}
+use Rattle.std.specs.Prelude.{List, bit_and, ◌<◌, ◌≤◌}
 use Rattle.em_eeprom.specs.Eeprom.{word_at}
 
 -- what is kept
@@ -16,6 +16,10 @@ pub record State : Type 0 where
   pub taken : ℕ
   -- how often SK fell since the ninth; behind the last bit of the last word comes the first of the first
   pub falls : ℕ
+
+-- what can be kept: seven pins, the number of as many bits as came in, and no more falls than all words have bits
+abbrev pub IsState : State → Type 0
+IsState s = (s.pins < 0x80) × (s.count ≤ 9) × (s.taken < 2 ^ s.count) × (s.falls ≤ 1024)
 
 -- before the first write: FWE is 01b
 abbrev pub at_rest : State

@@ -1,6 +1,6 @@
 //! The pins of EECD, and what the part behind them has heard.
-ghost use Rattle.std.specs.Prelude.{◌≡◌, ◌<◌, if◌then◌else◌};
-ghost use Rattle.em_pins.specs.Pins.{at_rest, after_write, bit, bit_in, bit_out, clocked, selected, data_out, eecd};
+ghost use Rattle.std.specs.Prelude.{◌≡◌, ◌↔◌, ◌<◌, ◌∷◌, [], if◌then◌else◌, IfSome, IsNone};
+ghost use Rattle.em_pins.specs.Pins.{IsState, State, at_rest, after_write, bit, bit_in, bit_out, clocked, selected, data_out, eecd};
 
 use em_eeprom::Eeprom;
 use em_mem::Reversible;
@@ -20,6 +20,9 @@ const REQ: u32 = 6;
 
 /// What a write stores: SK, CS, DI, FWE and REQ.
 const KEPT: u32 = 0x0000_0077;
+
+/// What is kept of the pins lies below this.
+const PINS_RANGE: u32 = 0x80;
 
 /// FWE 01b: flash is not written.
 const FWE_NO_WRITES: u8 = 0x10;
@@ -59,14 +62,13 @@ pub struct Pins {
 }
 
 impl Model for Pins {
-    ghost use Rattle.std.specs.Prelude.{◌≤◌, ◌<◌, ◌^◌};
-    ghost use Rattle.em_pins.specs.Pins.{State};
+    ghost use Rattle.em_pins.specs.Pins.{State, IsState};
 
     ghost Value = { State };
 
     ghost view = { λ p. record { pins = p.pins; count = p.count; taken = p.taken; falls = p.falls } };
 
-    ghost invariant = { λ p. (p.pins < 0x80) × (p.count ≤ 9) × (p.taken < 2 ^ p.count) × (p.falls ≤ 1024) };
+    ghost invariant = { λ p. IsState (record { pins = p.pins; count = p.count; taken = p.taken; falls = p.falls }) };
 
     ghost inverse = { λ s. record { pins = s.pins; count = s.count; taken = s.taken; falls = s.falls } };
 }
@@ -98,6 +100,41 @@ impl Pins {
             taken: 0,
             falls: 0,
         }
+    }
+
+    /// What was written to the pins last, how many bits came in since CS rose, the bits, and how often SK fell since the
+    /// ninth.
+    pub fn state(&self) -> [u32; 4]
+        ensures state { result ≡ self.now.pins ∷ self.now.count ∷ self.now.taken ∷ self.now.falls ∷ [] }
+        ensures can_be { IsState self.now }
+    {
+        [
+            u32::from(self.pins),
+            u32::from(self.count),
+            u32::from(self.taken),
+            u32::from(self.falls),
+        ]
+    }
+
+    /// Pins that keep this; none where pins can not.
+    pub fn of_state(pins: u32, count: u32, taken: u32, falls: u32) -> Option<Pins>
+        ensures some { IfSome result (λ made.
+            made ≡ record { pins = pins; count = count; taken = taken; falls = falls }) }
+        ensures none { IsNone result ↔
+            (IsState (record { pins = pins; count = count; taken = taken; falls = falls }) → ⊥) }
+    {
+        if pins >= PINS_RANGE || count > u32::from(COMMAND_BITS) || falls > u32::from(ALL_BITS) {
+            return None;
+        }
+        if taken >= 1 << count {
+            return None;
+        }
+        Some(Pins {
+            pins: pins as u8,
+            count: count as u8,
+            taken: taken as u16,
+            falls: falls as u16,
+        })
     }
 
     /// What EECD says, over an EEPROM.

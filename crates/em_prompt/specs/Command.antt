@@ -34,7 +34,7 @@ row_of command.Back = (codes "back", codes "back [N]: N events back; back to LIN
 row_of command.Forward = (codes "forward", codes "forward [N]: N events forward; forward to LINE")
 row_of command.Goto = (codes "goto", codes "goto EVENT: to where so many events are performed")
 row_of command.Next = (codes "next", codes "next [N]: performs N lines")
-row_of command.Run = (codes "run", codes "run [until refused|dropped|differs|LINE|WATCH changes]: performs lines")
+row_of command.Run = (codes "run", codes "run [until refused|dropped|differs|warning|LINE|WATCH changes]: performs lines")
 row_of command.Load =
     (codes "load", codes "load FILE: puts the lines of a file behind the others, or offers the frames of a capture")
 row_of command.Save = (codes "save", codes "save FILE: writes the lines to a new file")
@@ -49,7 +49,10 @@ row_of command.Frame =
 row_of command.Memory = (codes "memory", codes "memory ADDR LEN: shows guest memory in lines")
 row_of command.Why =
     (codes "why", codes "why: the rule by which the newest event did nothing, and who set what it looked at")
-row_of command.Warnings = (codes "warnings", codes "warnings on|off: says what drivers get wrong, or does not")
+row_of command.Warnings = (
+  codes "warnings",
+  codes "warnings [RULE]: what drivers got wrong, rule by rule or each place; on|off: says it behind lines, or not",
+)
 row_of command.Auto = (codes "auto", codes "auto on|off: lets the engines run by themselves, or not")
 row_of command.Pcap = (codes "pcap", codes "pcap FILE: writes the frames that were sent to a new capture")
 row_of command.PcapOver = (codes "pcap!", codes "pcap! FILE: the same, over a file that is there")

@@ -16,5 +16,6 @@ pub mod Typed
 pub mod Says
 pub mod Prompt
 pub mod Scripted
+pub mod Nowhere
 pub mod WrongText
 pub mod Help

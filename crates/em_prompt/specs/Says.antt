@@ -1,5 +1,5 @@
 -- What each command says by the words behind its name, or their first fault, from the left.
-use Rattle.std.specs.Prelude.{ℕ, Bool, List, [], ◌∷◌, ◌++◌, codes, if◌then◌else◌, Option, Some, None, Result, Ok, Err}
+use Rattle.std.specs.Prelude.{ℕ, Bool, true, false, List, [], ◌∷◌, ◌++◌, codes, if◌then◌else◌, Option, Some, None, Result, Ok, Err}
 use Rattle.std.specs.Str.{bytes_eq}
 use Rattle.em_text.specs.Numbers.{decimal_number}
 use Rattle.em_text.specs.Words.{words_of}
@@ -217,13 +217,14 @@ abbrev pub line_or_changes : Profile → Option ℕ → List ℕ → List (List 
 line_or_changes profile (Some n) word [] = with (within LineNumber n) (λ n. Ok (typed.run_until (until.line n)))
 line_or_changes profile at word words = changes_of profile word words
 
--- refused, dropped, differs, LINE, or WATCH changes
+-- refused, dropped, differs, warning, LINE, or WATCH changes
 abbrev pub until_of : Profile → List (List ℕ) → Result Typed Fault
 until_of profile [] = Err (missing Watches)
 until_of profile (word ∷ words) =
     if bytes_eq word (codes "refused") then alone (typed.run_until until.refused) words else
     if bytes_eq word (codes "dropped") then alone (typed.run_until until.dropped) words else
     if bytes_eq word (codes "differs") then alone (typed.run_until until.differs) words else
+    if bytes_eq word (codes "warning") then alone (typed.run_until until.warning) words else
     line_or_changes profile (decimal_number word) word words
 
 -- run, or run until ..
@@ -270,10 +271,19 @@ memory_of [] = Err (missing Address)
 memory_of (word ∷ words) =
     with (shown_address_in word) (λ addr. one (Numbers Peeked) (number_in Peeked) (λ len. typed.show (shown.Memory addr len)) words)
 
--- warnings on, warnings off; auto on, auto off
-abbrev pub warnings_of : List (List ℕ) → Result Typed Fault
-warnings_of words = one (Choice Switch) switch_in typed.warnings words
+-- on, off, or RULE
+abbrev pub warnings_by : List ℕ → Typed
+warnings_by word =
+    if bytes_eq word (codes "on") then typed.warnings true else
+    if bytes_eq word (codes "off") then typed.warnings false else
+    typed.warnings_of word
 
+-- warnings, warnings on, warnings off, warnings RULE
+abbrev pub warnings_of : List (List ℕ) → Result Typed Fault
+warnings_of [] = Ok (typed.show shown.Warnings)
+warnings_of (word ∷ words) = alone (warnings_by word) words
+
+-- auto on, auto off
 abbrev pub auto_of : List (List ℕ) → Result Typed Fault
 auto_of words = one (Choice Switch) switch_in typed.auto words
 

@@ -33,6 +33,8 @@ pub data Typed : Type 0 where
   save : List ℕ → Typed
   save_over : List ℕ → Typed
   warnings : Bool → Typed
+  -- those of the rule that is called so
+  warnings_of : List ℕ → Typed
   auto : Bool → Typed
   arrive_next : Typed
   arrive_all : Typed
@@ -59,6 +61,7 @@ plain (lent.Load file) = load file.now
 plain (lent.Save file) = save file.now
 plain (lent.SaveOver file) = save_over file.now
 plain (lent.Warnings on) = warnings on
+plain (lent.WarningsOf rule) = warnings_of rule.now
 plain (lent.Auto on) = auto on
 plain lent.ArriveNext = arrive_next
 plain lent.ArriveAll = arrive_all

@@ -12,6 +12,8 @@ pub data Until : Type 0 where
   dropped : Until
   -- where an answer is another one than the line expects
   differs : Until
+  -- where a line has a warning
+  warning : Until
   -- before the line of this number
   line : ℕ → Until
   -- where this changes
@@ -22,5 +24,6 @@ abbrev pub plain : Coded → Until
 plain coded.Refused = refused
 plain coded.Dropped = dropped
 plain coded.Differs = differs
+plain coded.Warning = warning
 plain (coded.Line n) = line n
 plain (coded.Changes w) = changes (watch.plain w)

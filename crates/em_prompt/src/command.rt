@@ -80,7 +80,7 @@ macro_rules! table {
             Forward, "forward", "forward [N]: N events forward; forward to LINE";
             Goto, "goto", "goto EVENT: to where so many events are performed";
             Next, "next", "next [N]: performs N lines";
-            Run, "run", "run [until refused|dropped|differs|LINE|WATCH changes]: performs lines";
+            Run, "run", "run [until refused|dropped|differs|warning|LINE|WATCH changes]: performs lines";
             Load, "load", "load FILE: puts the lines of a file behind the others, or offers the frames of a capture";
             Save, "save", "save FILE: writes the lines to a new file";
             SaveOver, "save!", "save! FILE: the same, over a file that is there";
@@ -92,7 +92,8 @@ macro_rules! table {
             Frame, "frame", "frame [I]: shows the frames that wait in the adapter, or octets of sent frame I, from 0";
             Memory, "memory", "memory ADDR LEN: shows guest memory in lines";
             Why, "why", "why: the rule by which the newest event did nothing, and who set what it looked at";
-            Warnings, "warnings", "warnings on|off: says what drivers get wrong, or does not";
+            Warnings, "warnings",
+                "warnings [RULE]: what drivers got wrong, rule by rule or each place; on|off: says it behind lines, or not";
             Auto, "auto", "auto on|off: lets the engines run by themselves, or not";
             Pcap, "pcap", "pcap FILE: writes the frames that were sent to a new capture";
             PcapOver, "pcap!", "pcap! FILE: the same, over a file that is there";

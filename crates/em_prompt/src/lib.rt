@@ -1,5 +1,5 @@
 //! What a line says that somebody types into a debugger: a line of em_bench's language, or a command of the debugger's
-//! own; or what is wrong with it. [docs/debugger-language.md](../../../docs/debugger-language.md) has every line.
+//! own; or what is wrong with it. [docs/language.md](../../../docs/language.md) has every line.
 //!
 //! Nothing is performed here, and no memory is taken.
 #![tactic(auto)]
@@ -12,6 +12,7 @@ mod help;
 mod kept;
 mod kind;
 mod near;
+mod nowhere;
 mod number;
 mod prompt;
 mod register;
@@ -31,6 +32,8 @@ pub use command::Command;
 pub use fault::Fault;
 pub use help::{write_help, write_whole_help};
 pub use kind::{Choice, Kind};
+pub use near::{begins, is_near};
+pub use nowhere::{Nowhere, meant, nowhere_said};
 pub use number::Number;
 pub use prompt::prompted;
 pub use script_line::{is_plain, scripted};

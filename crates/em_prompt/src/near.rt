@@ -82,14 +82,14 @@ impl Command {
 }
 
 /// Whether a name begins with a word.
-fn begins(word: &[u8], name: &[u8]) -> bool
+pub fn begins(word: &[u8], name: &[u8]) -> bool
     ensures { result ≡ begins word.now name.now }
 {
     &name[..name.len().min(word.len())] == word
 }
 
 /// Whether a word is a name but for one letter, or two that are turned.
-fn is_near(word: &[u8], name: &[u8]) -> bool
+pub fn is_near(word: &[u8], name: &[u8]) -> bool
     ensures { result ≡ is_near word.now name.now }
 {
     let at = common(word, name);

@@ -9,7 +9,7 @@ ghost use Rattle.em_prompt.specs.Value.{file_so, read_with, watch_read_with};
 ghost use Rattle.em_prompt.specs.Says.{plain, arrive_of, auto_of, bench, changes_of, effect_of, file_in, frame_line, frame_of};
 ghost use Rattle.em_prompt.specs.Says.{goto_of, help_of, history_of, lines_from, line_or_changes, link_of, list_of, look_of, mac_of, memory_of};
 ghost use Rattle.em_prompt.specs.Says.{move_of, moves_by, moves_to, next_of, number_if, peek_of, plan_of, poke_of, read_of, recv_of, ring_of};
-ghost use Rattle.em_prompt.specs.Says.{run_of, says, send_of, until_of, warnings_of, watch_at, watched_address, which_if, who_of, write_of};
+ghost use Rattle.em_prompt.specs.Says.{run_of, says, send_of, until_of, warnings_by, warnings_of, watch_at, watched_address, which_if, who_of, write_of};
 
 use crate::bench_line::BenchLine;
 use crate::command::Command;
@@ -354,7 +354,7 @@ fn run_of<'a>(profile: Profile, mut words: Words<'a>) -> Result<Typed<'a>, Fault
     }
 }
 
-/// refused, dropped, differs, LINE, or WATCH changes
+/// refused, dropped, differs, warning, LINE, or WATCH changes
 fn until_of<'a>(profile: Profile, mut words: Words<'a>) -> Result<Typed<'a>, Fault<'a>>
     ensures { plain result ≡ until_of profile (words_of words.entry.0.now) }
 {
@@ -367,6 +367,9 @@ fn until_of<'a>(profile: Profile, mut words: Words<'a>) -> Result<Typed<'a>, Fau
     }
     if is_name(word, b"differs") {
         return alone(Typed::RunUntil(Until::Differs), words);
+    }
+    if is_name(word, b"warning") {
+        return alone(Typed::RunUntil(Until::Warning), words);
     }
     line_or_changes(profile, word, words)
 }
@@ -483,12 +486,27 @@ fn memory_of<'a>(mut words: Words<'a>) -> Result<Typed<'a>, Fault<'a>>
     alone(Typed::Show(Shown::Memory(address, len)), words)
 }
 
-/// warnings on, warnings off
+/// warnings, warnings on, warnings off, warnings RULE
 fn warnings_of<'a>(mut words: Words<'a>) -> Result<Typed<'a>, Fault<'a>>
     ensures { plain result ≡ warnings_of (words_of words.entry.0.now) }
 {
-    let on = switch_in(next(&mut words, Kind::Choice(Choice::Switch))?)?;
-    alone(Typed::Warnings(on), words)
+    match words.next() {
+        None => Ok(Typed::Show(Shown::Warnings)),
+        Some(word) => alone(warnings_by(word), words),
+    }
+}
+
+/// on, off, or RULE
+fn warnings_by(word: &[u8]) -> Typed<'_>
+    ensures { plain_typed result ≡ warnings_by word.now }
+{
+    if is_name(word, b"on") {
+        return Typed::Warnings(true);
+    }
+    if is_name(word, b"off") {
+        return Typed::Warnings(false);
+    }
+    Typed::WarningsOf(word)
 }
 
 /// auto on, auto off

@@ -32,8 +32,8 @@ pub fn scripted(profile: Profile, said: &[u8]) -> Option<BenchLine<'_>>
     }
 }
 
-/// Whether em_bench reads a line that says this, and means the same by it. By EECD it means an offset in hexadecimal digits,
-/// which is a register's name in the second profile.
+/// Whether em_bench reads a line that says this, and means the same by it. By EECD or DC it means an offset in hexadecimal
+/// digits, and either is a register's name in the second profile.
 pub fn is_plain(profile: Profile, said: &[u8]) -> bool
     ensures { result ≡ is_plain profile said.now }
 {
@@ -64,7 +64,7 @@ fn accesses_name(mut words: Words<'_>) -> bool
 }
 
 /// Whether a command reads or writes a register.
-fn is_access(command: &[u8]) -> bool
+pub(crate) fn is_access(command: &[u8]) -> bool
     ensures { result ≡ is_access command.now }
 {
     is_name(command, b"r") || is_name(command, b"w")

@@ -31,6 +31,8 @@ pub enum Until {
     Dropped,
     /// Where an answer is another one than the line expects.
     Differs,
+    /// Where a line has a warning.
+    Warning,
     /// Before the line of this number.
     Line(u32),
     /// Where this changes.
@@ -64,6 +66,8 @@ pub enum Shown {
     Memory(u64, u32),
     /// Why the newest event did nothing.
     Why,
+    /// What drivers get wrong, rule by rule.
+    Warnings,
     /// The help, whole or for one command.
     Help(Option<Command>),
 }
@@ -100,6 +104,8 @@ pub enum Typed<'a> {
     SaveOver(&'a [u8]),
     /// Say what drivers get wrong, or do not.
     Warnings(bool),
+    /// Where the rule of this name says so.
+    WarningsOf(&'a [u8]),
     /// Let the engines run by themselves, or not.
     Auto(bool),
     /// Bring the next frame of a capture that was loaded.

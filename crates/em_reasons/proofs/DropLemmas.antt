@@ -16,7 +16,7 @@ use Rattle.em_filter.specs.Bits.{vet, vme}
 use Rattle.em_filter.specs.Vlan.{passes_vlan, tag_of, tagged, type_of}
 use Rattle.em_regs.specs.Storage.{Registers}
 use Rattle.em_rx.specs.Frame.{len_of}
-use Rattle.em_step.specs.Arrival.{after_accept, after_miss, arrival, is_enabled, judgement, kept_frame}
+use Rattle.em_step.specs.Arrival.{after_accept, after_arrived, after_miss, arrival, is_enabled, judgement, kept_frame}
 use Rattle.em_step.specs.Arrival.{lacks_room}
 use Rattle.em_step.specs.State.{State}
 use Rattle.em_step.specs.declared.event.Answer.{Answer}
@@ -87,7 +87,7 @@ arrival_by s f =
     by_state s.link (is_enabled s) s _
     ∙ ap (λ (a : Answer).
     if not s.link then Drops reason.Down else if not (is_enabled s) then Drops reason.Disabled else a)
-    (by_verdict s f (accepts s.registers (destination f)) (nat_lt (length f + 4) 64)
+    (by_verdict (after_arrived s f) f (accepts s.registers (destination f)) (nat_lt (length f + 4) 64)
     (nat_lt (longest s.registers) (length f + 4)) (passes_vlan s.registers f) (kind_of (destination f)))
 
 -- ---- each reason, and the first test that holds
@@ -277,8 +277,15 @@ state_keeps false on s a r keeps h = record { registers = refl; link = refl; fif
 state_keeps true false s a r keeps h = record { registers = refl; link = refl; fifo = refl; profile = refl }
 state_keeps true true s a r keeps h = keeps h
 
+-- that it was counted among all is no matter
+of_counted : (s t : State) (f : List ℕ) → LooksTheSame (after_arrived s f) t → LooksTheSame s t
+of_counted s t f same =
+    record { registers = same.registers; link = same.link; fifo = same.fifo; profile = same.profile }
+
 drop_keeps : (s : State) (f : List ℕ) (r : Reason) → IsDropped s f r → LooksTheSame s (arrival s f).1
-drop_keeps s f r = state_keeps s.link (is_enabled s) s _ r (verdict_keeps s f (verdict s.registers f) r)
+drop_keeps s f r =
+    state_keeps s.link (is_enabled s) s _ r
+    (λ dropped. of_counted s _ f (verdict_keeps (after_arrived s f) f (verdict s.registers f) r dropped))
 
 answer_same : (s t : State) (f : List ℕ) → LooksTheSame s t → answer_of t f ≡ answer_of s f
 answer_same s t f same = λ i.

@@ -1,3 +1,14 @@
+-- The laws of reasons, by the promises that rest on them. The folders here are the proofs of functions, by the modules
+-- of src of the same names.
+--
+-- The reason is the first test of a table that holds (`the_first_test_decides`): TableLemmas
+-- The tables say what the adapter does:
+--      IdleLemmas (`why_rx_idle`, `why_tx_idle`); DropLemmas (`drops_are_explained`)
+--      RefusalLemmas (`refusals_are_explained`); TroubleLemmas (`troubles_are_refused`), on RefusedStay below too
+-- As long as what a test looked at stays, so does its answer:
+--   1  BitLemmas: bits that a mask leaves; StayLemmas on IdleLemmas (`idle_steps_stay_idle`)
+--   2  LostLemmas on DropLemmas (`dropped_frames_stay_dropped`); RefusedStay on RefusalLemmas
+--      (`refused_events_stay_refused`)
 pub mod TableLemmas
 pub mod IdleLemmas
 pub mod DropLemmas

@@ -18,7 +18,7 @@ pub struct Told {
 /// A line that was played, and whose record is not written yet.
 #[derive(Drop)]
 pub struct Held {
-    /// What stands in its record before its events.
+    /// Its record, behind which those of its events follow.
     pub text: Vec<u8>,
     /// The number of its first event, and how many it performed.
     pub number: u64,
@@ -48,21 +48,15 @@ impl Held {
         self.told.push(one).map_err(AllocError::from)
     }
 
-    /// Writes its record.
+    /// Writes its record and those of its events.
     pub fn write<W: Write>(&self, writer: &mut W) -> Result<(), WriteFailed> {
         write_whole(writer, self.text.as_slice())?;
         for (done, one) in self.told.as_slice().iter().rev().enumerate() {
             write_one(writer, self.number, done, one)?;
         }
-        write_whole(writer, BEHIND_EVENTS)
+        Ok(())
     }
 }
-
-/// What stands before the events of a line.
-pub const BEFORE_EVENTS: &[u8] = b",\"events\":[";
-
-/// What stands behind them.
-pub const BEHIND_EVENTS: &[u8] = b"]}";
 
 /// Whether there are more frames in the FIFO than there were.
 pub fn has_stored(frames: Option<Difference>) -> bool {
@@ -84,9 +78,6 @@ pub fn write_one<W: Write>(
     done: usize,
     one: &Told,
 ) -> Result<(), WriteFailed> {
-    if done > 0 {
-        write_whole(writer, b",")?;
-    }
     let number = first.saturating_add(done as u64);
     let stored = match &one.stored {
         Some(octets) => Some(octets.as_slice()),

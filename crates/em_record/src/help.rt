@@ -2,8 +2,8 @@
 
 /// The command line, and where to read on.
 pub const HELP: &str = "\
-Plays a script on a software model of Intel's 82540EM network adapter, and writes the record of the run as JSON: the
-answer to each line, and what each event changed, before and after.
+Plays a script on a software model of Intel's 82540EM network adapter, and writes the record of the run as JSON
+Lines: the answer to each line, and what each event changed, before and after.
 
 Usage: em_record [OPTIONS] [SCRIPT]
 

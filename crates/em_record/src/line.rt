@@ -2,13 +2,25 @@
 
 use crate::fault::RecordFault;
 use em_expect::{agrees_of, write_difference};
-use em_line::{Command, Line, Said, parts_of};
+use em_frames::time_in;
+use em_line::{Command, Line, Parts, Said, parts_of};
 use em_prompt::scripted;
 use em_regs::Profile;
 use em_script::BenchFault;
 use em_step::Event;
 use em_text::WriteFailed;
 use std::alloc::{AllocError, Global};
+
+/// How many nanoseconds a microsecond has.
+const MICROSECOND: u64 = 1_000;
+
+/// The time of a line, in microseconds, if its comment is one.
+pub fn time_of(parts: &Parts<'_>) -> Option<u64> {
+    match time_in(parts.comment.unwrap_or_default()) {
+        Some(time) => Some(time / MICROSECOND),
+        None => None,
+    }
+}
 
 /// What is played of a line that says this: names of registers and bits, `0x` and the like in the words that em_bench reads,
 /// as em_debug keeps them where they are typed; all else as it stands. Registers are those of a profile.
@@ -79,6 +91,6 @@ pub fn difference(
 }
 
 /// A vector fails only where memory is refused.
-fn without_memory(_: WriteFailed) -> RecordFault {
+pub fn without_memory(_: WriteFailed) -> RecordFault {
     RecordFault::Bench(BenchFault::Memory)
 }

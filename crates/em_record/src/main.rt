@@ -1,10 +1,11 @@
 //! The recorder: plays a script on a machine that the options describe, and writes the record of the run.
 //!
-//!     em_record [OPTIONS] [SCRIPT] > run.json
+//!     em_record [OPTIONS] [SCRIPT] > run.jsonl
 //!
 //! The options are those of em_bench.
 #![tactic(auto)]
 
+mod explained;
 mod fault;
 mod held;
 mod help;

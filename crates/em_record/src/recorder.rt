@@ -1,8 +1,9 @@
 //! Playing a script, and writing its record as it goes.
 
+use crate::explained::{reason, write_warnings};
 use crate::fault::RecordFault;
-use crate::held::{BEFORE_EVENTS, BEHIND_EVENTS, Held, Told, has_stored, write_one};
-use crate::line::{difference, kind_of, played, takes_back};
+use crate::held::{Held, Told, has_stored, write_one};
+use crate::line::{difference, kind_of, played, takes_back, time_of};
 use em_journal::{Settings, SettingsRefusal};
 use em_line::{Line, Parts, parts_of};
 use em_named::Did;
@@ -18,7 +19,7 @@ use std::alloc::{AllocError, Global};
 use std::io::Write;
 
 /// What a record begins with: its format and the version of that.
-const FORMAT: &[u8] = b"{\"format\":\"bunjelav recording\",\"version\":2,\n";
+const FORMAT: &[u8] = b"{\"format\":\"bunjelav recording\",\"version\":3,";
 
 /// A line with more events than these is taken back and performed again.
 const FEW: usize = 64;
@@ -41,13 +42,6 @@ pub struct Recorder {
     /// The newest lines, from one on whose events are told by steps back; and how many events they performed.
     held: Vec<Held>,
     held_events: usize,
-}
-
-/// Writes each line's text.
-fn write_script<W: Write>(writer: &mut W, script: &[u8]) -> Result<(), WriteFailed> {
-    write_whole(writer, b"\"script\":")?;
-    write_strings(writer, script)?;
-    write_whole(writer, b",\n")
 }
 
 /// Writes the lines of a text as a list of strings.
@@ -111,7 +105,6 @@ impl Recorder {
     pub fn record<W: Write>(&mut self, writer: &mut W, script: &[u8]) -> Result<bool, RecordFault> {
         write_whole(writer, FORMAT)?;
         write_settings(writer, &self.settings)?;
-        write_script(writer, script)?;
         write_start(writer, self.tape.machine())?;
         self.write_lines(writer, script)?;
         self.write_end(writer)?;
@@ -120,16 +113,13 @@ impl Recorder {
 
     /// Plays each line, and writes what it did.
     fn write_lines<W: Write>(&mut self, writer: &mut W, script: &[u8]) -> Result<(), RecordFault> {
-        write_whole(writer, b"\"lines\":[")?;
         let mut rest = script;
         while !rest.is_empty() {
             let (line, behind) = next_line(rest);
             self.write_line(writer, line)?;
             rest = behind;
         }
-        self.write_all_held(writer)?;
-        write_whole(writer, b"\n],\n")?;
-        Ok(())
+        self.write_all_held(writer)
     }
 
     /// Plays a line, and writes what it did, or holds that.
@@ -137,8 +127,7 @@ impl Recorder {
         if !self.held.is_empty() && takes_back(self.alloc, self.settings.profile, text)? {
             self.write_all_held(writer)?;
         }
-        let front = self.play(text)?;
-        let count = self.performed()?;
+        let (front, count) = self.play(text)?;
         if self.held_events.saturating_add(count) > self.tape.machine().can_go_back() {
             let before = self.tape.len().saturating_sub(1);
             self.write_held(writer, before)?;
@@ -156,13 +145,19 @@ impl Recorder {
         Ok(())
     }
 
-    /// Plays a line, and gives what stands in its record before its events.
-    fn play(&mut self, text: &[u8]) -> Result<Vec<u8>, RecordFault> {
+    /// Plays a line, and gives its record, and how many events it performed, whose records follow.
+    fn play(&mut self, text: &[u8]) -> Result<(Vec<u8>, usize), RecordFault> {
         let parts = parts_of(text);
         let said = played(self.alloc, self.settings.profile, parts.said)?;
         let line = Line::read(self.alloc, said.as_slice())?;
         let outcome = self.perform(said.as_slice())?;
-        self.front(&parts, &line, outcome)
+        let count = self.performed()?;
+        let mut front = Vec::new(self.alloc);
+        // A vector fails only where memory is refused.
+        match self.write_front(&mut front, text, &line, outcome, count) {
+            Ok(()) => Ok((front, count)),
+            Err(_) => Err(RecordFault::Bench(BenchFault::Memory)),
+        }
     }
 
     /// Plays what a line says, and keeps its answer.
@@ -171,21 +166,6 @@ impl Recorder {
         self.answer.clear();
         match self.tape.perform_next(&mut self.answer) {
             Ok(outcome) => Ok(outcome.unwrap_or(Outcome::Silent)),
-            // A vector fails only where memory is refused.
-            Err(_) => Err(RecordFault::Bench(BenchFault::Memory)),
-        }
-    }
-
-    /// What stands in the record of the last line before its events.
-    fn front(
-        &mut self,
-        parts: &Parts<'_>,
-        line: &Line<'_>,
-        outcome: Outcome,
-    ) -> Result<Vec<u8>, RecordFault> {
-        let mut front = Vec::new(self.alloc);
-        match self.write_front(&mut front, parts, line, outcome) {
-            Ok(()) => Ok(front),
             // A vector fails only where memory is refused.
             Err(_) => Err(RecordFault::Bench(BenchFault::Memory)),
         }
@@ -205,33 +185,59 @@ impl Recorder {
         }
     }
 
-    /// Writes what stands in the record of the last line before its events.
+    /// Writes the record of the last line, which performed so many events: their records follow it.
     fn write_front<W: Write>(
         &mut self,
         writer: &mut W,
-        parts: &Parts<'_>,
+        text: &[u8],
         line: &Line<'_>,
         outcome: Outcome,
+        count: usize,
     ) -> Result<(), RecordFault> {
-        let number = self.tape.len() as u64;
-        write_whole(writer, if number > 1 { b",\n" } else { b"\n" })?;
-        write_number(writer, b"{\"line\":", number)?;
+        write_number(writer, b"{\"line\":", self.tape.len() as u64)?;
+        write_field(writer, b",\"text\":", text)?;
         if let Some(kind) = kind_of(&line.says) {
             write_pieces(writer, &[b",\"kind\":\"", kind, b"\""])?;
         }
-        write_whole(writer, b",\"answer\":")?;
-        write_strings(writer, self.answer.as_slice())?;
+        self.write_answer(writer)?;
         self.write_outcome(writer, outcome)?;
-        self.write_behind(writer, parts, line)?;
-        if let Some(Did::TookBack(count)) = self.tape.performed_by(self.tape.len()) {
-            write_number(writer, b",\"back\":", u64::from(count))?;
+        self.write_told(writer, line, outcome)?;
+        self.write_behind(writer, &parts_of(text), line)?;
+        if let Some(Did::TookBack(taken)) = self.tape.performed_by(self.tape.len()) {
+            write_number(writer, b",\"back\":", u64::from(taken))?;
         }
-        write_whole(writer, BEFORE_EVENTS)?;
+        if count > 0 {
+            write_number(writer, b",\"events\":", count as u64)?;
+        }
+        write_whole(writer, b"}\n")?;
         Ok(())
     }
 
-    /// Writes what stands behind what a line says: the answer that it expects, how its answer differs from that, and where
-    /// it comes from.
+    /// Writes the answer to the last line, if there is one.
+    fn write_answer<W: Write>(&self, writer: &mut W) -> Result<(), WriteFailed> {
+        if self.answer.is_empty() {
+            return Ok(());
+        }
+        write_whole(writer, b",\"answer\":")?;
+        write_strings(writer, self.answer.as_slice())
+    }
+
+    /// Writes why the event of the last line did nothing, if it did nothing, and the warnings that the line has.
+    fn write_told<W: Write>(
+        &self,
+        writer: &mut W,
+        line: &Line<'_>,
+        outcome: Outcome,
+    ) -> Result<(), RecordFault> {
+        let machine = self.tape.machine();
+        let came = outcome.event();
+        let why = reason(self.alloc, machine, line.event(), came)?;
+        write_field(writer, b",\"why\":", why.as_slice())?;
+        write_warnings(self.alloc, writer, machine, line.event(), came)
+    }
+
+    /// Writes what stands behind what a line says: the answer that it expects, how its answer differs from that, where
+    /// it comes from, and when it was.
     fn write_behind<W: Write>(
         &self,
         writer: &mut W,
@@ -243,6 +249,9 @@ impl Recorder {
         write_field(writer, b",\"expected\":", expected)?;
         write_field(writer, b",\"differs\":", first_of(differs.as_slice()))?;
         write_field(writer, b",\"source\":", parts.source.unwrap_or_default())?;
+        if let Some(time) = time_of(parts) {
+            write_number(writer, b",\"time\":", time)?;
+        }
         Ok(())
     }
 
@@ -290,7 +299,6 @@ impl Recorder {
             let one = self.told(count - done)?;
             write_one(writer, number, done, &one)?;
         }
-        write_whole(writer, BEHIND_EVENTS)?;
         Ok(())
     }
 
@@ -384,7 +392,7 @@ impl Recorder {
 
     /// Writes how many events stand, and how many lines were played.
     fn write_end<W: Write>(&self, writer: &mut W) -> Result<(), WriteFailed> {
-        write_number(writer, b"\"end\":{\"events\":", self.tape.behind(0) as u64)?;
+        write_number(writer, b"{\"end\":{\"events\":", self.tape.behind(0) as u64)?;
         write_number(writer, b",\"lines\":", self.tape.len() as u64)?;
         write_pieces(writer, &[b"}}\n"])
     }

@@ -63,4 +63,4 @@ event_text number note r stored =
     ++ (frame_text (codes ",\"stored\":") stored
     ++ (gathered_text r.gathered
     ++ (frame_text (codes ",\"sent\":") (sent_of r)
-    ++ (ways_text r ++ codes "}"))))))))
+    ++ (ways_text r ++ codes "}\n"))))))))

@@ -14,8 +14,8 @@ use Rattle.em_recording.specs.Text.{number_text, octets_text}
 
 -- behind the address: the profile, where it is not the first, and the end
 abbrev pub settings_end : Profile → List ℕ
-settings_end Table = codes "},\n"
-settings_end Adapter = codes ",\"profile\":\"adapter\"},\n"
+settings_end Table = codes "},"
+settings_end Adapter = codes ",\"profile\":\"adapter\"},"
 
 -- what a machine is made of
 abbrev pub settings_text : Settings → List ℕ
@@ -45,4 +45,4 @@ words_text s word n = flat_map (word_text s) (range_with_len word n)
 abbrev pub start_text : State → List ℕ
 start_text s =
     named_text (codes "\"start\":{\"registers\":{\"") named.Ctrl (gives s named.Ctrl)
-    ++ (words_text s 1 0x17FF ++ codes "}},\n")
+    ++ (words_text s 1 0x17FF ++ codes "}}}\n")

@@ -15,8 +15,8 @@ use em_text::{WriteFailed, write_whole};
 use em_trail::Note;
 use std::io::Write;
 
-/// Writes the record of the event of a number: what it was, by its note, and what it changed. `stored` are the octets of
-/// the frame that came into the FIFO, where they are known.
+/// Writes the record of the event of a number, as a line: what it was, by its note, and what it changed. `stored` are
+/// the octets of the frame that came into the FIFO, where they are known.
 pub fn write_event<W: Write>(
     writer: &mut W,
     number: u64,
@@ -36,7 +36,7 @@ pub fn write_event<W: Write>(
     write_gathered(writer, recorded)?;
     write_sent(writer, recorded)?;
     write_ways(writer, recorded)?;
-    write_whole(writer, b"}")
+    write_whole(writer, b"}\n")
 }
 
 fn write_registers<W: Write>(writer: &mut W, steps: &[RegisterStep]) -> Result<(), WriteFailed>

@@ -1,5 +1,5 @@
 //! What the events of a machine were and changed, as data, and as the JSON of a recording.
-//! [docs/recording.md](../../../docs/recording.md) has the format.
+//! [docs/traces.md](../../../docs/traces.md) has the format.
 //!
 //! From what a machine showed at the start and what its events changed, what it showed after each event can be rebuilt,
 //! forwards and backwards.

@@ -32,8 +32,8 @@ fn settings_end(profile: Profile) -> &'static [u8]
     ensures { result.now ≡ settings_end profile }
 {
     match profile {
-        Profile::Table => b"},\n",
-        Profile::Adapter => b",\"profile\":\"adapter\"},\n",
+        Profile::Table => b"},",
+        Profile::Adapter => b",\"profile\":\"adapter\"},",
     }
 }
 
@@ -46,7 +46,7 @@ pub fn write_start<W: Write>(writer: &mut W, machine: &Machine) -> Result<(), Wr
     for word in 1..WORDS {
         write_word(writer, machine, word)?;
     }
-    write_whole(writer, b"}},\n")
+    write_whole(writer, b"}}}\n")
 }
 
 /// Writes the register of a word behind others, if one lies there.

@@ -1,6 +1,6 @@
 -- The rows that a profile has.
 use Rattle.std.proofs.Common.{◌≡◌, ℕ, ◌-◌, ◌/◌, Bool, true, false, ◌&&◌, List, [], ◌∷◌, ◌++◌, Option, Some, None, refl}
-use Rattle.std.proofs.Common.{ap, ◌∙◌, cond}
+use Rattle.std.proofs.Common.{ap, sym, ◌∙◌, cond}
 use Rattle.std.specs.Prelude.{bit_and}
 use Rattle.std.specs.FinMap as map
 use Rattle.std.specs.Prelude.{not}
@@ -10,7 +10,7 @@ use Rattle.em_regs.specs.declared.reg.Reg.TheVariants.{Ctrl, Mta, Ral, Rah, Vfta
 use Rattle.em_regs.specs.declared.profile.Profile.{Profile}
 use Rattle.em_regs.specs.declared.profile.Profile.TheVariants.{Table}
 use Rattle.em_regs.specs.Table.{row_of, with_index, has_word_at, has_reg, kept_by, reg_in, reg_at, reg_of, reg_of_table}
-use Rattle.em_regs.specs.Table.{registers_besides, registers_of_table, IsReg, kept_bits, offset_of}
+use Rattle.em_regs.specs.Table.{registers_besides, registers_of_table, IsReg, IsRegOf, is_in, kept_bits, offset_of}
 use Rattle.em_regs.specs.RegFile.{put, put_in}
 use Rattle.em_regs.specs.Storage.{Registers}
 use Rattle.em_regs.proofs.TableLaws.{reg_at-offset_of}
@@ -86,6 +86,15 @@ table_is_list o = behind registers_of_table registers_besides o refl refl
 -- a register of a profile is found where it lies
 pub reg_of-offset_of : (p : Profile) (reg : Reg) → IsReg reg → has_reg p reg ≡ true → reg_of p (offset_of reg) ≡ Some reg
 reg_of-offset_of p reg h has = ap (kept_by p) (reg_at-offset_of reg h) ∙ ap (λ b. cond b (Some reg) None) has
+
+-- where a register lies whose row a profile has not, no other of the profile lies
+pub none_of_profile : (p : Profile) (o : ℕ) (found : Reg) → Some found ≡ reg_at o
+    → is_in (row_of found).since p ≡ false → (reg : Reg) → IsRegOf p reg → offset_of reg ≡ o → ⊥
+none_of_profile p o found at out reg has lies =
+    let here : Some found ≡ Some reg = at ∙ ap reg_at (sym lies) ∙ reg_at-offset_of reg has.0 in
+    let same : found ≡ reg = cc in
+    let left : false ≡ has_reg p reg = sym out ∙ ap (has_reg p) same in
+    absurd (let e : false ≡ true = left ∙ has.1 in cc)
 
 -- ---- the bits that a profile keeps
 same_bits : (narrow : Bool) (mask : ℕ) → kept_bits narrow Table mask ≡ mask

@@ -8,9 +8,10 @@ use Rattle.std.specs.FinMap as map
 use Rattle.std.specs.FinMap.{find, get-from_entries}
 use Rattle.std.specs.Ordering.{nat_cmp}
 use Rattle.std.proofs.lemmas.Bool.{and_parts}
+use Rattle.std.proofs.lemmas.List.{ext_get_or}
 use Rattle.std.proofs.lemmas.Bool.Decides.{nat_tests}
 use Rattle.em_regs.specs.Storage.{Registers, words_at}
-use Rattle.em_regs.specs.RegFile.{at}
+use Rattle.em_regs.specs.RegFile.{at, words_of}
 use Rattle.em_regs.proofs.Entries.{tie, tied, untied, edit, get_entry, insert_entry}
 
 -- a number is not in a list
@@ -87,6 +88,28 @@ word_set {os} {ws} {m} {i} {o} v p =
     insert_entry (zip os ws) (zip os (set ws i v)) m o v (get_or ws i 0) p.words
     (ap (λ k. find nat_cmp k (zip os ws)) (sym p.place) ∙ find-zip os ws i 0 p.differ p.offset p.word)
     (sym (edit-zip os ws i v p.differ p.offset p.word) ∙ ap (λ k. edit k v (zip os ws)) p.place)
+
+-- ---- all words
+length-words_of : (os : List ℕ) (m : Registers) → length (words_of os m) ≡ length os
+length-words_of [] m = refl
+length-words_of (o ∷ os) m = ap suc (length-words_of os m)
+
+get-words_of : (os : List ℕ) (m : Registers) (i : ℕ) → i < length os
+    → get_or (words_of os m) i 0 ≡ at m (get_or os i 0)
+get-words_of [] m i lt = absurd (omega arith)
+get-words_of (o ∷ os) m zero lt = refl
+get-words_of (o ∷ os) m (suc i) lt = get-words_of os m i (omega arith)
+
+-- the words at offsets that differ are those that the map was made of
+pub words_are : (os ws : List ℕ) (m : Registers) → distinct os ≡ true → length ws ≡ length os → words_at os ws ≡ m
+    → ws ≡ words_of os m
+words_are os ws m apart same e =
+    ext_get_or 0 ws (words_of os m) (same ∙ sym (length-words_of os m))
+    (λ i lt.
+    let below : i < length os = omega arith in
+    let place : IsPlace os ws m i (get_or os i 0)
+    = record { differ = apart; offset = below; word = lt; place = refl; words = e } in
+    sym (get-words_of os m i below ∙ ap (λ (found : Option ℕ). unwrap_or found 0) (word_is place)))
 
 -- ---- words that are all zero
 abbrev pub zeros : ℕ → List ℕ

@@ -36,6 +36,11 @@ registers_code = map.code coded_ℕ coded_ℕ
 abbrev pub at : Registers → ℕ → ℕ
 at m o = unwrap_or (map.get m o) 0
 
+-- the numbers at some offsets, one after another
+abbrev pub words_of : List ℕ → Registers → List ℕ
+words_of [] m = []
+words_of (o ∷ os) m = at m o ∷ words_of os m
+
 -- a register of the table that keeps what software writes
 abbrev pub IsStored : Reg → Type 0
 IsStored reg = IsReg reg × IsTrue (is_stored reg)

@@ -28,7 +28,7 @@ use Rattle.em_regs.specs.declared.profile.Profile.{Profile}
 use Rattle.em_regs.specs.declared.profile.Profile.TheVariants.{Table, Adapter}
 use Rattle.em_regs.specs.declared.table.Kind.{Kind}
 use Rattle.em_regs.specs.declared.table.Kind.TheVariants.{Stored, Control, EepromRead, Status, Interrupt, Counter}
-use Rattle.em_regs.specs.declared.table.Kind.TheVariants.{EepromPins, PhyCommand}
+use Rattle.em_regs.specs.declared.table.Kind.TheVariants.{EepromPins, PhyCommand, Uncounted}
 
 -- an array: n words that lie some octets apart, which store the bits of a mask
 abbrev pub array : ℕ → ℕ → ℕ → ℕ → ℕ → Row
@@ -150,6 +150,38 @@ named_row_of named.Wuc = called (codes "WUC") (later (word 0x05800 0xFFFF_FFFF 3
 named_row_of named.Wufc = called (codes "WUFC") (later (word 0x05808 0xFFFF_FFFF 324))
 named_row_of named.Manc = called (codes "MANC") (later (word 0x05820 0xFFFF_FFFF 325))
 named_row_of named.Swsm = called (codes "SWSM") (later (word 0x05B50 0xFFFF_FFFF 326))
+named_row_of named.Torl = called (codes "TORL") (later (other 0x040C0 Counter 26))
+named_row_of named.Torh = called (codes "TORH") (later (other 0x040C4 Counter 27))
+named_row_of named.Totl = called (codes "TOTL") (later (other 0x040C8 Counter 28))
+named_row_of named.Toth = called (codes "TOTH") (later (other 0x040CC Counter 29))
+named_row_of named.Tpr = called (codes "TPR") (later (other 0x040D0 Counter 30))
+named_row_of named.Tpt = called (codes "TPT") (later (other 0x040D4 Counter 31))
+named_row_of named.Crcerrs = called (codes "CRCERRS") (later (other 0x04000 Uncounted 0))
+named_row_of named.Algnerrc = called (codes "ALGNERRC") (later (other 0x04004 Uncounted 0))
+named_row_of named.Symerrs = called (codes "SYMERRS") (later (other 0x04008 Uncounted 0))
+named_row_of named.Rxerrc = called (codes "RXERRC") (later (other 0x0400C Uncounted 0))
+named_row_of named.Scc = called (codes "SCC") (later (other 0x04014 Uncounted 0))
+named_row_of named.Ecol = called (codes "ECOL") (later (other 0x04018 Uncounted 0))
+named_row_of named.Mcc = called (codes "MCC") (later (other 0x0401C Uncounted 0))
+named_row_of named.Latecol = called (codes "LATECOL") (later (other 0x04020 Uncounted 0))
+named_row_of named.Colc = called (codes "COLC") (later (other 0x04028 Uncounted 0))
+named_row_of named.Dc = called (codes "DC") (later (other 0x04030 Uncounted 0))
+named_row_of named.Tncrs = called (codes "TNCRS") (later (other 0x04034 Uncounted 0))
+named_row_of named.Sec = called (codes "SEC") (later (other 0x04038 Uncounted 0))
+named_row_of named.Cexterr = called (codes "CEXTERR") (later (other 0x0403C Uncounted 0))
+named_row_of named.Rlec = called (codes "RLEC") (later (other 0x04040 Uncounted 0))
+named_row_of named.Xonrxc = called (codes "XONRXC") (later (other 0x04048 Uncounted 0))
+named_row_of named.Xontxc = called (codes "XONTXC") (later (other 0x0404C Uncounted 0))
+named_row_of named.Xoffrxc = called (codes "XOFFRXC") (later (other 0x04050 Uncounted 0))
+named_row_of named.Xofftxc = called (codes "XOFFTXC") (later (other 0x04054 Uncounted 0))
+named_row_of named.Fcruc = called (codes "FCRUC") (later (other 0x04058 Uncounted 0))
+named_row_of named.Rfc = called (codes "RFC") (later (other 0x040A8 Uncounted 0))
+named_row_of named.Rjc = called (codes "RJC") (later (other 0x040B0 Uncounted 0))
+named_row_of named.Mgtprc = called (codes "MGTPRC") (later (other 0x040B4 Uncounted 0))
+named_row_of named.Mgtpdc = called (codes "MGTPDC") (later (other 0x040B8 Uncounted 0))
+named_row_of named.Mgtptc = called (codes "MGTPTC") (later (other 0x040BC Uncounted 0))
+named_row_of named.Tsctc = called (codes "TSCTC") (later (other 0x040F8 Uncounted 0))
+named_row_of named.Tsctfc = called (codes "TSCTFC") (later (other 0x040FC Uncounted 0))
 
 abbrev pub row_of : Reg → Row
 row_of reg = (named_row_of reg).row
@@ -234,7 +266,11 @@ registers_of_table = named.Ctrl ∷ named.Status ∷ named.Eerd ∷ named.CtrlEx
 -- those of the rows that the second profile has besides
 abbrev pub registers_besides : List Reg
 registers_besides = named.Eecd ∷ named.Mdic ∷ named.Txcw ∷ named.Ait ∷ named.Fcrtl ∷ named.Fcrth ∷ named.Wuc ∷ named.Wufc ∷
-    named.Manc ∷ named.Swsm ∷ []
+    named.Manc ∷ named.Swsm ∷ named.Torl ∷ named.Torh ∷ named.Totl ∷ named.Toth ∷ named.Tpr ∷ named.Tpt ∷
+    named.Crcerrs ∷ named.Algnerrc ∷ named.Symerrs ∷ named.Rxerrc ∷ named.Scc ∷ named.Ecol ∷ named.Mcc ∷ named.Latecol
+    ∷ named.Colc ∷ named.Dc ∷ named.Tncrs ∷ named.Sec ∷ named.Cexterr ∷ named.Rlec ∷ named.Xonrxc ∷ named.Xontxc ∷
+    named.Xoffrxc ∷ named.Xofftxc ∷ named.Fcruc ∷ named.Rfc ∷ named.Rjc ∷ named.Mgtprc ∷ named.Mgtpdc ∷ named.Mgtptc ∷
+    named.Tsctc ∷ named.Tsctfc ∷ []
 
 -- those of all rows
 abbrev pub registers : List Reg

@@ -16,4 +16,4 @@ pub use reg::Reg;
 pub use reg_file::{RegFile, RegUndo};
 pub use ring::{DESCRIPTOR_OCTETS, Ring, following};
 pub use setup::{RxSetup, TxSetup, buffer_size};
-pub use table::{COUNTER_WORDS, Kind, Row, SPACE};
+pub use table::{COUNTER_WORDS, Kind, Row, SPACE, STORED_WORDS};

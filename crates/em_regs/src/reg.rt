@@ -163,6 +163,70 @@ pub enum Reg {
     Manc,
     /// SWSM: software semaphore, of later parts, which U-Boot asks for on this one too; read and write.
     Swsm,
+    /// TORL: total octets received, low half; a read leaves it.
+    Torl,
+    /// TORH: total octets received, high half; a read clears both halves.
+    Torh,
+    /// TOTL: total octets transmitted, low half; a read leaves it.
+    Totl,
+    /// TOTH: total octets transmitted, high half; a read clears both halves.
+    Toth,
+    /// TPR: total packets received; cleared by a read.
+    Tpr,
+    /// TPT: total packets transmitted; cleared by a read.
+    Tpt,
+    /// CRCERRS: CRC error count, of what never happens here; read only.
+    Crcerrs,
+    /// ALGNERRC: alignment error count, of what never happens here; read only.
+    Algnerrc,
+    /// SYMERRS: symbol error count, of what never happens here; read only.
+    Symerrs,
+    /// RXERRC: receive error count, of what never happens here; read only.
+    Rxerrc,
+    /// SCC: single collision count, of what never happens here; read only.
+    Scc,
+    /// ECOL: excessive collisions count, of what never happens here; read only.
+    Ecol,
+    /// MCC: multiple collision count, of what never happens here; read only.
+    Mcc,
+    /// LATECOL: late collisions count, of what never happens here; read only.
+    Latecol,
+    /// COLC: collision count, of what never happens here; read only.
+    Colc,
+    /// DC: defer count, of what never happens here; read only.
+    Dc,
+    /// TNCRS: transmit with no CRS count, of what never happens here; read only.
+    Tncrs,
+    /// SEC: sequence error count, of what never happens here; read only.
+    Sec,
+    /// CEXTERR: carrier extension error count, of what never happens here; read only.
+    Cexterr,
+    /// RLEC: receive length error count, of what never happens here; read only.
+    Rlec,
+    /// XONRXC: XON received count, of what never happens here; read only.
+    Xonrxc,
+    /// XONTXC: XON transmitted count, of what never happens here; read only.
+    Xontxc,
+    /// XOFFRXC: XOFF received count, of what never happens here; read only.
+    Xoffrxc,
+    /// XOFFTXC: XOFF transmitted count, of what never happens here; read only.
+    Xofftxc,
+    /// FCRUC: FC received unsupported count, of what never happens here; read only.
+    Fcruc,
+    /// RFC: receive fragment count, of what never happens here; read only.
+    Rfc,
+    /// RJC: receive jabber count, of what never happens here; read only.
+    Rjc,
+    /// MGTPRC: management packets received count, of what never happens here; read only.
+    Mgtprc,
+    /// MGTPDC: management packets dropped count, of what never happens here; read only.
+    Mgtpdc,
+    /// MGTPTC: management packets transmitted count, of what never happens here; read only.
+    Mgtptc,
+    /// TSCTC: TCP segmentation context transmitted count, of what never happens here; read only.
+    Tsctc,
+    /// TSCTFC: TCP segmentation context transmit fail count, of what never happens here; read only.
+    Tsctfc,
 }
 
 impl Reg {

@@ -2,9 +2,9 @@
 ghost use Rattle.std.specs.Prelude.{◌≡◌, ◌↔◌, ◌<◌, IsTrue, get_or, slice_index, Some, unwrap_or};
 ghost use Rattle.std.specs.FinMap as map;
 ghost use Rattle.em_regs.specs.Table.{offset_of, row_of};
-ghost use Rattle.em_regs.specs.Storage.{Registers, offsets};
+ghost use Rattle.em_regs.specs.Storage.{Registers, offsets, words_at};
 ghost use Rattle.em_regs.specs.RegFile.{at, IsStored, put, put_in, put_eerd, reset, zeroed, Fits, old_at, undo};
-ghost use Rattle.em_regs.specs.RegFile.{Reverses};
+ghost use Rattle.em_regs.specs.RegFile.{Reverses, words_of};
 
 use crate::bits::{Eerd, Rah};
 use crate::profile::Profile;
@@ -106,6 +106,21 @@ impl RegFile {
         ensures { result ≡ self.now }
     {
         RegFile { words: self.words }
+    }
+
+    /// Registers with these words, each at the place that its register's row names.
+    pub fn of_words(words: [u32; STORED_WORDS]) -> RegFile
+        ensures { result ≡ words_at offsets words }
+    {
+        RegFile { words }
+    }
+
+    /// All words, each at the place that its register's row names.
+    pub fn words(&self) -> &[u32; STORED_WORDS]
+        ensures words { result.now ≡ words_of offsets self.now }
+        ensures file { words_at offsets result.now ≡ self.now }
+    {
+        &self.words
     }
 
     /// Resets the registers where they lie.

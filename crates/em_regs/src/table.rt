@@ -25,6 +25,8 @@ pub enum Kind {
     EepromPins,
     /// MDIC: a command to the PHY, and what comes of it.
     PhyCommand,
+    /// A counter of what never happens here: a read gives 0, and a write does nothing.
+    Uncounted,
 }
 
 impl Kind {
@@ -92,7 +94,7 @@ pub(crate) const PAGE: u32 = 64;
 pub const STORED_WORDS: usize = 327;
 
 /// How many counters there are: their next free place.
-pub const COUNTER_WORDS: usize = 26;
+pub const COUNTER_WORDS: usize = 32;
 
 /// A register that stores all 32 bits.
 const EVERY_BIT: u32 = 0xFFFF_FFFF;
@@ -254,6 +256,38 @@ impl Reg {
             Reg::Wufc =>     row!("WUFC",     0x05808,          Stored,     EVERY_BIT,   324, Adapter),
             Reg::Manc =>     row!("MANC",     0x05820,          Stored,     EVERY_BIT,   325, Adapter),
             Reg::Swsm =>     row!("SWSM",     0x05B50,          Stored,     EVERY_BIT,   326, Adapter),
+            Reg::Torl =>     row!("TORL",     0x040C0,          Counter,    EVERY_BIT,   26,  Adapter),
+            Reg::Torh =>     row!("TORH",     0x040C4,          Counter,    EVERY_BIT,   27,  Adapter),
+            Reg::Totl =>     row!("TOTL",     0x040C8,          Counter,    EVERY_BIT,   28,  Adapter),
+            Reg::Toth =>     row!("TOTH",     0x040CC,          Counter,    EVERY_BIT,   29,  Adapter),
+            Reg::Tpr =>      row!("TPR",      0x040D0,          Counter,    EVERY_BIT,   30,  Adapter),
+            Reg::Tpt =>      row!("TPT",      0x040D4,          Counter,    EVERY_BIT,   31,  Adapter),
+            Reg::Crcerrs =>  row!("CRCERRS",  0x04000,          Uncounted,  EVERY_BIT,   0,   Adapter),
+            Reg::Algnerrc => row!("ALGNERRC", 0x04004,          Uncounted,  EVERY_BIT,   0,   Adapter),
+            Reg::Symerrs =>  row!("SYMERRS",  0x04008,          Uncounted,  EVERY_BIT,   0,   Adapter),
+            Reg::Rxerrc =>   row!("RXERRC",   0x0400C,          Uncounted,  EVERY_BIT,   0,   Adapter),
+            Reg::Scc =>      row!("SCC",      0x04014,          Uncounted,  EVERY_BIT,   0,   Adapter),
+            Reg::Ecol =>     row!("ECOL",     0x04018,          Uncounted,  EVERY_BIT,   0,   Adapter),
+            Reg::Mcc =>      row!("MCC",      0x0401C,          Uncounted,  EVERY_BIT,   0,   Adapter),
+            Reg::Latecol =>  row!("LATECOL",  0x04020,          Uncounted,  EVERY_BIT,   0,   Adapter),
+            Reg::Colc =>     row!("COLC",     0x04028,          Uncounted,  EVERY_BIT,   0,   Adapter),
+            Reg::Dc =>       row!("DC",       0x04030,          Uncounted,  EVERY_BIT,   0,   Adapter),
+            Reg::Tncrs =>    row!("TNCRS",    0x04034,          Uncounted,  EVERY_BIT,   0,   Adapter),
+            Reg::Sec =>      row!("SEC",      0x04038,          Uncounted,  EVERY_BIT,   0,   Adapter),
+            Reg::Cexterr =>  row!("CEXTERR",  0x0403C,          Uncounted,  EVERY_BIT,   0,   Adapter),
+            Reg::Rlec =>     row!("RLEC",     0x04040,          Uncounted,  EVERY_BIT,   0,   Adapter),
+            Reg::Xonrxc =>   row!("XONRXC",   0x04048,          Uncounted,  EVERY_BIT,   0,   Adapter),
+            Reg::Xontxc =>   row!("XONTXC",   0x0404C,          Uncounted,  EVERY_BIT,   0,   Adapter),
+            Reg::Xoffrxc =>  row!("XOFFRXC",  0x04050,          Uncounted,  EVERY_BIT,   0,   Adapter),
+            Reg::Xofftxc =>  row!("XOFFTXC",  0x04054,          Uncounted,  EVERY_BIT,   0,   Adapter),
+            Reg::Fcruc =>    row!("FCRUC",    0x04058,          Uncounted,  EVERY_BIT,   0,   Adapter),
+            Reg::Rfc =>      row!("RFC",      0x040A8,          Uncounted,  EVERY_BIT,   0,   Adapter),
+            Reg::Rjc =>      row!("RJC",      0x040B0,          Uncounted,  EVERY_BIT,   0,   Adapter),
+            Reg::Mgtprc =>   row!("MGTPRC",   0x040B4,          Uncounted,  EVERY_BIT,   0,   Adapter),
+            Reg::Mgtpdc =>   row!("MGTPDC",   0x040B8,          Uncounted,  EVERY_BIT,   0,   Adapter),
+            Reg::Mgtptc =>   row!("MGTPTC",   0x040BC,          Uncounted,  EVERY_BIT,   0,   Adapter),
+            Reg::Tsctc =>    row!("TSCTC",    0x040F8,          Uncounted,  EVERY_BIT,   0,   Adapter),
+            Reg::Tsctfc =>   row!("TSCTFC",   0x040FC,          Uncounted,  EVERY_BIT,   0,   Adapter),
         }
     }
 }
@@ -309,10 +343,10 @@ static PAGES: [[Option<Reg>; 16]; 37] = [
     page![Pba - - - - - - - - - - - - - - -], // 0x01000
     page![Rdbal Rdbah Rdlen - Rdh - Rdt - Rdtr - Rxdctl Radv - - - -], // 0x02800
     page![Tdbal Tdbah Tdlen - Tdh - Tdt - Tidv - Txdctl Tadv - - - -], // 0x03800
-    page![- - - - Mpc - - - - - - - - - - -], // 0x04000
-    page![- - - - - - - Prc64 Prc127 Prc255 Prc511 Prc1023 Prc1522 Gprc Bprc Mprc], // 0x04040
-    page![Gptc - Gorcl Gorch Gotcl Gotch - - Rnbc Ruc - Roc - - - -], // 0x04080
-    page![- - - - - - Ptc64 Ptc127 Ptc255 Ptc511 Ptc1023 Ptc1522 Mptc Bptc - -], // 0x040C0
+    page![Crcerrs Algnerrc Symerrs Rxerrc Mpc Scc Ecol Mcc Latecol - Colc - Dc Tncrs Sec Cexterr], // 0x04000
+    page![Rlec - Xonrxc Xontxc Xoffrxc Xofftxc Fcruc Prc64 Prc127 Prc255 Prc511 Prc1023 Prc1522 Gprc Bprc Mprc], // 0x04040
+    page![Gptc - Gorcl Gorch Gotcl Gotch - - Rnbc Ruc Rfc Roc Rjc Mgtprc Mgtpdc Mgtptc], // 0x04080
+    page![Torl Torh Totl Toth Tpr Tpt Ptc64 Ptc127 Ptc255 Ptc511 Ptc1023 Ptc1522 Mptc Bptc Tsctc Tsctfc], // 0x040C0
     page![Rxcsum - - - - - - - - - - - - - - -], // 0x05000
     words!(Mta, 0), words!(Mta, 16), words!(Mta, 32), words!(Mta, 48), // 0x05200
     words!(Mta, 64), words!(Mta, 80), words!(Mta, 96), words!(Mta, 112), // 0x05300

@@ -51,6 +51,17 @@ after_delivery fifo n =
     if nat_lt (fifo.taken + n) (length (first fifo).octets) then record fifo { taken = fifo.taken + n }
     else record { frames = drop 1 fifo.frames; taken = 0 }
 
+-- of the first frame not all is taken, and of none nothing
+abbrev pub IsTakenOf : ℕ → List Frame → Type 0
+IsTakenOf taken [] = taken ≡ 0
+IsTakenOf taken (frame ∷ frames) = taken < len_of frame
+
+-- frames that a FIFO can have: they have room, and each has as many octets as the least one stored, 60 without a tag of 4
+pub record IsFifo (fifo : Fifo) : Type 0 where
+  pub room : octets_in fifo ≤ 49_152
+  pub least : All (λ frame. 56 ≤ len_of frame) fifo.frames
+  pub taken : IsTakenOf fifo.taken fifo.frames
+
 -- what the FIFO keeps: each octet of the packet buffer, each entry of the ring, and the places in both.
 -- Octets that no frame has stay as they are until an arrival overwrites them
 pub record Cells : Type 0 where

@@ -7,7 +7,7 @@ ghost use Rattle.em_mem.specs.OldOctets.{Keeps, Saves};
 ghost use Rattle.em_rx.specs.Frame.{stored_frame};
 ghost use Rattle.em_rx.specs.StoredFrame.{LiesSo};
 ghost use Rattle.em_rx.specs.Fifo.{after_arrival, after_delivery, empty, first, fresh, HasRoom, IsFirst, IsLast};
-ghost use Rattle.em_rx.specs.Fifo.{IsSound, last, next, octets_in, rest, shows};
+ghost use Rattle.em_rx.specs.Fifo.{IsFifo, IsSound, last, next, octets_in, rest, shows};
 ghost use Rattle.em_rx.specs.Records.{IsWhole, frame_patch, record_of, saved_of, step_patch};
 ghost use Rattle.em_rx.specs.RxUndo.{Frame};
 ghost use Rattle.em_rx.specs.Undo.{Fits, FitsFrame, FitsStep, IsMove, Reverses, ReversesStep, delivered, moved_back};
@@ -175,7 +175,6 @@ impl Fifo {
         old: &mut OldOctets,
     ) -> Result<OldFrame, RxRefusal>
         requires least { 56 ≤ length octets.now }
-        requires most { length octets.now ≤ 16_384 }
         requires room { HasRoom (shows self.old) (length octets.now) }
         ensures ok { OnOk result (shows self.new
             ≡ after_arrival (shows self.old) (record { octets = octets.now; tag = tag })) }
@@ -195,7 +194,6 @@ impl Fifo {
     #[inline(always)]
     fn put_last(&mut self, octets: &[u8], tag: Option<u16>, old: &mut OldOctets) -> OldFrame
         requires least { 56 ≤ length octets.now }
-        requires most { length octets.now ≤ 16_384 }
         requires room { HasRoom (shows self.old) (length octets.now) }
         requires old_room { length octets.now ≤ length old.old.octets }
         ensures shown { shows self.new
@@ -281,6 +279,37 @@ impl Fifo {
         self.places = places;
     }
 
+    /// Puts the octets and the tag of a frame behind the others, as `store` does once the tag is taken out.
+    pub fn put(&mut self, octets: &[u8], tag: Option<u16>) -> Result<(), RxRefusal>
+        requires least { 56 ≤ length octets.now }
+        requires room { HasRoom (shows self.old) (length octets.now) }
+        ensures ok { OnOk result (shows self.new
+            ≡ after_arrival (shows self.old) (record { octets = octets.now; tag = tag })) }
+        ensures refused { IfErr result (λ refusal. refusal ≡ RxRefusal.Memory) }
+        ensures same { OnErr result (self.new ≡ self.old) }
+    {
+        let mut old = OldOctets::none(self.alloc);
+        self.store_octets(octets, tag, &mut old)?;
+        Ok(())
+    }
+
+    /// Passes over so many octets of the first frame, as if they had gone to guest memory: with the last one it leaves.
+    pub fn pass(&mut self, count: u32)
+        requires some { 0 < length (shows self.old).frames }
+        requires count { count ≤ rest (shows self.old) }
+        ensures { shows self.new ≡ after_delivery (shows self.old) count }
+    {
+        self.places = self.places_after(count);
+    }
+
+    /// How many octets of the first frame are in guest memory already.
+    pub fn taken(&self) -> u32
+        ensures taken { result ≡ (shows self.now).taken }
+        ensures fifo { IsFifo (shows self.now) }
+    {
+        self.places.taken
+    }
+
     /// The first frame, as it lies in the packet buffer; none where no frame waits.
     pub fn first_frame(&self) -> Option<StoredFrame<'_>>
         ensures none { IsNone result ↔ (length (shows self.now).frames ≡ 0) }
@@ -346,7 +375,7 @@ impl Fifo {
     }
 
     /// How many octets of the first frame are not in guest memory yet.
-    pub(crate) fn rest(&self) -> u32
+    pub fn rest(&self) -> u32
         requires { 0 < length (shows self.now).frames }
         ensures rest { result ≡ rest (shows self.now) }
         ensures some { 0 < result }

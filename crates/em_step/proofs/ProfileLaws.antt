@@ -6,7 +6,7 @@ use Rattle.em_regs.specs.declared.profile.Profile.{Profile}
 use Rattle.em_regs.specs.declared.reg.Reg.{Reg}
 use Rattle.em_regs.specs.declared.table.Kind.{Kind}
 use Rattle.em_regs.specs.declared.table.Kind.TheVariants.{Stored, Control, EepromRead, Status, Interrupt, Counter}
-use Rattle.em_regs.specs.declared.table.Kind.TheVariants.{EepromPins, PhyCommand}
+use Rattle.em_regs.specs.declared.table.Kind.TheVariants.{EepromPins, PhyCommand, Uncounted}
 use Rattle.em_regs.specs.Table.{answers_at, reg_of, row_of}
 use Rattle.em_latch.specs.Latches.{is_latched}
 use Rattle.em_filter.specs.Filters.{verdict}
@@ -23,7 +23,7 @@ use Rattle.em_tx.specs.declared.answer.TxAnswer.TheVariants as tx_answer
 use Rattle.em_tx.specs.declared.refusal.TxRefusal.{TxRefusal}
 use Rattle.em_step.specs.Access.{after_link, after_read, after_write_by, differ, gives, has, is_reset_by}
 use Rattle.em_step.specs.Access.{after_write}
-use Rattle.em_step.specs.Arrival.{arrival, is_enabled, judgement, lacks_room}
+use Rattle.em_step.specs.Arrival.{after_arrived, arrival, is_enabled, judgement, lacks_room}
 use Rattle.em_step.specs.Engines.{after_rx_answer, after_tx_answer, received, rx_stepped, transmitted, tx_stepped}
 use Rattle.em_step.specs.Engines.{with_outcome, with_shown}
 use Rattle.em_step.specs.Event.{Event, reads, writes, pokes, arrives, links, receives, transmits}
@@ -72,6 +72,7 @@ write_keeps Interrupt s reg v = refl
 write_keeps Counter s reg v = refl
 write_keeps EepromPins s reg v = refl
 write_keeps PhyCommand s reg v = refl
+write_keeps Uncounted s reg v = refl
 
 -- ---- memory, and a frame that arrives
 unless : (few many : Bool) (e f : Refusal) (p : Profile) (x r : Answer × State) → Keeps p x
@@ -93,7 +94,7 @@ judged_keeps s f (Accept kind) = either_outcome (lacks_room s f) _ _ s.profile r
 
 arrival_keeps : (s : State) (f : List ℕ) → Keeps s.profile (arrival s f)
 arrival_keeps s f = either_outcome (not s.link) _ _ s.profile refl
-    (either_outcome (not (is_enabled s)) _ _ s.profile refl (judged_keeps s f (verdict s.registers f)))
+    (either_outcome (not (is_enabled s)) _ _ s.profile refl (judged_keeps (after_arrived s f) f (verdict s.registers f)))
 
 -- ---- engines
 rx_answer_keeps : (s : State) (a : RxAnswer) → Keeps s.profile (after_rx_answer s a)

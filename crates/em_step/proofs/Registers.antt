@@ -5,7 +5,7 @@ use Rattle.em_regs.specs.declared.reg.Reg.{Reg}
 use Rattle.em_regs.specs.declared.reg.Reg.TheVariants as named
 use Rattle.em_regs.specs.declared.table.Kind.{Kind}
 use Rattle.em_regs.specs.declared.table.Kind.TheVariants.{Stored, Control, EepromRead, Status, Interrupt, Counter}
-use Rattle.em_regs.specs.declared.table.Kind.TheVariants.{EepromPins, PhyCommand}
+use Rattle.em_regs.specs.declared.table.Kind.TheVariants.{EepromPins, PhyCommand, Uncounted}
 use Rattle.em_regs.specs.Table.{IsReg, has_reg, reg_at, row_of, is_stored_kind, offset_of}
 use Rattle.em_regs.specs.RegFile.{IsStored, OnlyStores}
 use Rattle.em_latch.specs.Latches.{is_latched, is_latched_kind}
@@ -84,6 +84,7 @@ gives_stored_by Interrupt s reg stored = cc
 gives_stored_by Counter s reg stored = cc
 gives_stored_by EepromPins s reg stored = cc
 gives_stored_by PhyCommand s reg stored = cc
+gives_stored_by Uncounted s reg stored = cc
 
 pub gives_stored : (s : State) (reg : Reg) → IsStored reg → gives s reg ≡ registers.at s.registers (offset_of reg)
 gives_stored s reg is = gives_stored_by (row_of reg).kind s reg is.1

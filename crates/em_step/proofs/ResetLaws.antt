@@ -5,7 +5,7 @@ use Rattle.em_regs.specs.declared.reg.Reg.TheVariants as named
 use Rattle.em_regs.specs.declared.reg.Reg.TheVariants.{Ics, Imc, Ral, Rah}
 use Rattle.em_regs.specs.declared.profile.Profile.{Profile}
 use Rattle.em_regs.specs.declared.table.Kind.{Kind}
-use Rattle.em_regs.specs.declared.table.Kind.TheVariants.{Status, Interrupt, Counter, EepromPins, PhyCommand}
+use Rattle.em_regs.specs.declared.table.Kind.TheVariants.{Status, Interrupt, Counter, EepromPins, PhyCommand, Uncounted}
 use Rattle.em_regs.specs.Table.{IsReg, row_of, offset_of, reg_at}
 use Rattle.em_regs.specs.RegFile as registers
 use Rattle.em_regs.specs.RegFile.{zeroed, address_low, address_high}
@@ -47,6 +47,7 @@ by_kind : (kind : Kind) (s : State) (reg : Reg) → kind ≢ Status → kind ≢
 by_kind Status s reg other no_pins no_phy latched stored = absurd (other refl)
 by_kind EepromPins s reg other no_pins no_phy latched stored = absurd (no_pins refl)
 by_kind PhyCommand s reg other no_pins no_phy latched stored = absurd (no_phy refl)
+by_kind Uncounted s reg other no_pins no_phy latched stored = refl
 by_kind Interrupt s reg other no_pins no_phy latched stored = latched
 by_kind Counter s reg other no_pins no_phy latched stored = latched
 by_kind kind s reg other no_pins no_phy latched stored = stored

@@ -39,7 +39,7 @@ use Rattle.em_tx.specs.declared.answer.TxAnswer.{TxAnswer}
 use Rattle.em_tx.specs.declared.answer.TxAnswer.TheVariants as tx_answer
 use Rattle.em_tx.specs.declared.refusal.TxRefusal.{TxRefusal}
 use Rattle.em_tx.specs.declared.refusal.TxRefusal.TheVariants as tx_refusal
-use Rattle.em_step.specs.Arrival.{after_accept, after_miss, arrival, is_enabled, judged, judgement, kept_frame}
+use Rattle.em_step.specs.Arrival.{after_accept, after_arrived, after_miss, arrival, is_enabled, judged, judgement, kept_frame}
 use Rattle.em_step.specs.Arrival.{keeps_sequence, lacks_room, with_sequence}
 use Rattle.em_step.specs.Engines.{after_rx_answer, after_tx_answer, rx_step, rx_stepped, sending, tx_step, tx_stepped}
 use Rattle.em_step.specs.Engines.{with_outcome, with_shown}
@@ -123,12 +123,27 @@ judged_by s f TooLong is on no_lpe no_vme bare =
 judged_by s f (Accept kind) is on no_lpe no_vme bare =
     admitted s f kind (lacks_room s f) on (accepted s.registers f kind no_lpe is) no_vme bare
 
+-- that it was counted among all is no matter
+of_counted : (s : State) (f : List ℕ) (r : Answer × State) → ArrivedAs (after_arrived s f) f r → ArrivedAs s f r
+of_counted s f r (same, admits) = (
+  record {
+    registers = same.registers;
+    base = same.base;
+    memory = same.memory;
+    gathered = same.gathered;
+    wire = same.wire;
+    profile = same.profile;
+  },
+  admits,
+)
+
 arrived_by : (s : State) (f : List ℕ) (up on : Bool) → is_enabled s ≡ on
     → lpe s.registers ≡ false → vme s.registers ≡ false → keeps_sequence s ≡ false
     → ArrivedAs s f (if not up then (Dropped Down, s) else if not on then (Dropped Disabled, s) else judged s f)
 arrived_by s f false on is no_lpe no_vme bare = (same_state s, inl (Down, refl, refl))
 arrived_by s f true false is no_lpe no_vme bare = (same_state s, inl (Disabled, refl, refl))
-arrived_by s f true true is no_lpe no_vme bare = judged_by s f (verdict s.registers f) refl is no_lpe no_vme bare
+arrived_by s f true true is no_lpe no_vme bare =
+    of_counted s f (judged s f) (judged_by (after_arrived s f) f (verdict s.registers f) refl is no_lpe no_vme bare)
 
 taken_in : (s : State) (f : List ℕ) (a : Bool) (r : Answer × State)
     → (if a then Err Length else Ok (arrival s f)) ≡ Ok r → arrival s f ≡ r

@@ -4,7 +4,7 @@ use Rattle.em_regs.specs.declared.reg.Reg.{Reg}
 use Rattle.em_regs.specs.declared.reg.Reg.TheVariants.{Eerd}
 use Rattle.em_regs.specs.declared.table.Kind.{Kind}
 use Rattle.em_regs.specs.declared.table.Kind.TheVariants.{Stored, Control, EepromRead, Status, Interrupt, Counter}
-use Rattle.em_regs.specs.declared.table.Kind.TheVariants.{EepromPins, PhyCommand}
+use Rattle.em_regs.specs.declared.table.Kind.TheVariants.{EepromPins, PhyCommand, Uncounted}
 use Rattle.em_regs.specs.Table.{row_of, offset_of}
 use Rattle.em_regs.specs.RegFile as registers
 use Rattle.em_latch.specs.Latches as latches
@@ -22,6 +22,7 @@ gives_by Interrupt s reg = latches.gives s.latches reg
 gives_by Counter s reg = latches.gives s.latches reg
 gives_by EepromPins s reg = pins.eecd s.eeprom s.pins
 gives_by PhyCommand s reg = s.phy.mdic
+gives_by Uncounted s reg = 0
 gives_by kind s reg = registers.at s.registers (offset_of reg)
 
 abbrev pub gives : State → Reg → ℕ
@@ -97,6 +98,7 @@ after_write_by Interrupt s reg v = after_latch_write s reg v
 after_write_by Counter s reg v = after_latch_write s reg v
 after_write_by EepromPins s reg v = after_pins_write s v
 after_write_by PhyCommand s reg v = after_phy_command s v
+after_write_by Uncounted s reg v = s
 
 abbrev pub after_write : State → Reg → ℕ → State
 after_write s reg v = after_write_by (row_of reg).kind s reg v

@@ -15,7 +15,7 @@ use Rattle.em_filter.specs.Vlan.{tagged}
 use Rattle.em_rx.specs.Frame.{Frame, len_of, stored_frame}
 use Rattle.em_rx.specs.Fifo.{after_arrival, octets_in}
 use Rattle.em_step.specs.Access.{has}
-use Rattle.em_step.specs.Counts.{after_buffer_count, after_frame_count, after_miss_count}
+use Rattle.em_step.specs.Counts.{after_buffer_count, after_frame_count, after_miss_count, after_total_received}
 use Rattle.em_step.specs.State.{State, is_adapter}
 use Rattle.em_step.specs.declared.event.Answer.{Answer}
 use Rattle.em_step.specs.declared.event.Answer.TheVariants.{Stored, Dropped}
@@ -62,6 +62,10 @@ abbrev pub lacks_room : State → List ℕ → Bool
 lacks_room s f = nat_lt 49_152 (octets_in s.fifo + len_of (kept_frame s f))
 
 -- ---- what an arrival leaves
+-- a frame is counted among all, with four octets, the frame check sequence
+abbrev pub after_arrived : State → List ℕ → State
+after_arrived s f = record s { latches = after_total_received s.profile (length f + 4) s.latches }
+
 -- one more in a counter
 abbrev pub after_one_more : State → Counter → State
 after_one_more s counter = record s { latches = after_count s.latches counter 1 }
@@ -90,8 +94,9 @@ judgement s f TooShort = (Dropped Undersize, after_one_more s Ruc)
 judgement s f TooLong = (Dropped Oversize, after_one_more s Roc)
 judgement s f (Accept kind) = admission s f kind
 
+-- a frame for which receives are enabled is among all, whatever the verdict
 abbrev pub judged : State → List ℕ → Answer × State
-judged s f = judgement s f (verdict s.registers f)
+judged s f = judgement (after_arrived s f) f (verdict s.registers f)
 
 -- the answer and the next state
 abbrev pub arrival : State → List ℕ → Answer × State

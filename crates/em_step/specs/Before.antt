@@ -11,6 +11,7 @@ use Rattle.em_regs.specs.declared.reg.Reg.{Reg}
 use Rattle.em_regs.specs.declared.reg.Reg.TheVariants.{Ics, Imc, Rdh, Tdh}
 use Rattle.em_regs.specs.declared.table.Kind.{Kind}
 use Rattle.em_regs.specs.declared.table.Kind.TheVariants.{Interrupt, Counter, EepromPins, PhyCommand, Status}
+use Rattle.em_regs.specs.declared.table.Kind.TheVariants.{Uncounted}
 use Rattle.em_regs.specs.Table.{row_of, offset_of}
 use Rattle.em_regs.specs.RegFile as registers
 use Rattle.em_latch.specs.Latches as latches
@@ -103,6 +104,7 @@ register_before_by Interrupt r reg now = latched_before r.latches r.effect reg n
 register_before_by Counter r reg now = latched_before r.latches r.effect reg now
 register_before_by EepromPins r reg now = pins_before r.effect now
 register_before_by PhyCommand r reg now = mdic_before r.effect now
+register_before_by Uncounted r reg now = 0
 register_before_by kind r reg now = stored_before r.effect reg now
 
 abbrev pub register_before : Undo → Reg → ℕ → ℕ

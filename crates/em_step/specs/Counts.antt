@@ -1,5 +1,7 @@
 -- How frames that arrive and frames that are sent are counted.
 use Rattle.std.specs.Prelude.{ℕ, nat_le, nat_lt, Bool, if◌then◌else◌}
+use Rattle.em_regs.specs.declared.profile.Profile.{Profile}
+use Rattle.em_regs.specs.declared.profile.Profile.TheVariants.{Table, Adapter}
 use Rattle.em_regs.specs.Storage.{Registers}
 use Rattle.em_latch.specs.Latches.{after_raise}
 use Rattle.em_latch.specs.Counter.{after_count}
@@ -8,6 +10,7 @@ use Rattle.em_latch.specs.declared.counter.Counter.TheVariants.{Mpc, Prc64, Prc1
 use Rattle.em_latch.specs.declared.counter.Counter.TheVariants.{Gprc, Bprc, Mprc, Gorc, Rnbc}
 use Rattle.em_latch.specs.declared.counter.Counter.TheVariants.{Ptc64, Ptc127, Ptc255, Ptc511, Ptc1023, Ptc1522}
 use Rattle.em_latch.specs.declared.counter.Counter.TheVariants.{Gptc, Bptc, Mptc, Gotc}
+use Rattle.em_latch.specs.declared.counter.Counter.TheVariants.{Tpr, Tpt, Tor, Tot}
 use Rattle.em_address.specs.declared.kind.Kind.{Kind}
 use Rattle.em_step.specs.declared.counts.SizeClass.{SizeClass}
 use Rattle.em_step.specs.declared.counts.SizeClass.TheVariants.{Upto64, Upto127, Upto255, Upto511, Upto1023, Above1023}
@@ -41,6 +44,20 @@ sent_counter Upto511 = Ptc511
 sent_counter Upto1023 = Ptc1023
 sent_counter Above1023 = Ptc1522
 
+-- ---- all frames, which the second profile counts: one more frame, and n octets more
+abbrev pub after_total : Profile → Counter → Counter → ℕ → Registers → Registers
+after_total Table frames octets n m = m
+after_total Adapter frames octets n m = after_count (after_count m frames 1) octets n
+
+-- TPR and TOR count those that arrive
+abbrev pub after_total_received : Profile → ℕ → Registers → Registers
+after_total_received profile n m = after_total profile Tpr Tor n m
+
+-- and TPT and TOT those that are sent
+abbrev pub after_total_sent : Profile → ℕ → Registers → Registers
+after_total_sent profile n m = after_total profile Tpt Tot n m
+
+-- ---- a frame that arrives
 -- RNBC counts the frames for which no buffer is there
 abbrev pub after_buffer_count : Bool → Registers → Registers
 after_buffer_count lacks m = if lacks then after_count m Rnbc 1 else m
@@ -77,5 +94,5 @@ after_sent_kind Multicast m = after_count m Mptc 1
 after_sent_kind Unicast m = m
 
 -- a frame of n octets on the wire
-abbrev pub after_sent_count : ℕ → Kind → Registers → Registers
-after_sent_count n kind m = after_sent_kind kind (after_sent_sizes n m)
+abbrev pub after_sent_count : Profile → ℕ → Kind → Registers → Registers
+after_sent_count profile n kind m = after_sent_kind kind (after_sent_sizes n (after_total_sent profile n m))

@@ -74,7 +74,7 @@ after_tx_answer s tx_answer.Idle = (Idle, s)
 after_tx_answer s (tx_answer.Fetched index next causes) = (Fetched index, after_descriptor s next causes)
 after_tx_answer s (tx_answer.Sent index next causes octets kind) = (
   Sent index octets,
-  after_descriptor (record s { latches = after_sent_count (octets + 4) kind s.latches }) next causes,
+  after_descriptor (record s { latches = after_sent_count s.profile (octets + 4) kind s.latches }) next causes,
 )
 
 abbrev pub tx_refused : TxRefusal → Refusal

@@ -7,7 +7,6 @@ ghost use Rattle.em_mem.specs.Memory.{IsMemoryRange, IsMemorySize, LiesIn, leave
 ghost use Rattle.em_regs.specs.Table.{IsReg, IsRegOf, has_reg, offset_of, reg_of, row_of};
 ghost use Rattle.em_regs.specs.RegFile.{IsStored, OnlyStores};
 ghost use Rattle.em_latch.specs.Latches.{is_latched, IsLatched, IsAsserted};
-ghost use Rattle.em_eeprom.specs.Eeprom.{IsEeprom};
 ghost use Rattle.em_pins.specs.Pins.{eecd};
 ghost use Rattle.em_rx.specs.Fifo.{first, last, octets_in};
 ghost use Rattle.em_rx.specs.StoredFrame.{LiesSo};
@@ -49,13 +48,13 @@ pub struct Adapter {
     pub(crate) fifo: Fifo,
     pub(crate) gather: Gather,
     pub(crate) wire: Wire,
-    eeprom: Eeprom,
+    pub(crate) eeprom: Eeprom,
     pub(crate) link: bool,
-    profile: Profile,
-    pins: Pins,
-    phy: Phy,
+    pub(crate) profile: Profile,
+    pub(crate) pins: Pins,
+    pub(crate) phy: Phy,
     // what was let go serves the next record
-    spare_resets: Spares<BeforeReset>,
+    pub(crate) spare_resets: Spares<BeforeReset>,
 }
 
 impl Model for Adapter {
@@ -295,14 +294,6 @@ impl Adapter {
         self.gather.octets()
     }
 
-    /// The EEPROM.
-    pub(crate) fn eeprom(&self) -> &Eeprom
-        ensures words { result.now ≡ (shows self.now).eeprom }
-        ensures whole { IsEeprom (shows self.now).eeprom }
-    {
-        &self.eeprom
-    }
-
     /// The address of the first octet of the guest's memory.
     pub fn memory_base(&self) -> u64
         ensures { result ≡ (shows self.now).base }
@@ -414,6 +405,7 @@ impl Adapter {
             Kind::Status => (self.status(), Record::of_effect(Effect::Nothing)),
             Kind::EepromPins => (self.told_by_pins(), Record::of_effect(Effect::Nothing)),
             Kind::PhyCommand => (self.phy.read(), Record::of_effect(Effect::Nothing)),
+            Kind::Uncounted => (0, Record::of_effect(Effect::Nothing)),
         }
     }
 
@@ -434,6 +426,7 @@ impl Adapter {
             Kind::Status => Ok(Record::of_effect(Effect::Nothing)),
             Kind::EepromPins => Ok(self.write_pins(value)),
             Kind::PhyCommand => Ok(self.command_phy(value)),
+            Kind::Uncounted => Ok(Record::of_effect(Effect::Nothing)),
         }
     }
 
@@ -640,6 +633,7 @@ impl Adapter {
             Kind::Status => self.status(),
             Kind::EepromPins => self.told_by_pins(),
             Kind::PhyCommand => self.phy.read(),
+            Kind::Uncounted => 0,
         }
     }
 

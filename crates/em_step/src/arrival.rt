@@ -1,9 +1,10 @@
 //! What becomes of a frame that arrives (manual, chapter on receive description).
-ghost use Rattle.std.specs.Prelude.{◌≡◌, ◌+◌, ◌≤◌, IfOk, IfErr, OnOk, OnErr, Ok, length, not, false, [], if◌then◌else◌};
+ghost use Rattle.std.specs.Prelude.{◌≡◌, ◌+◌, ◌<◌, ◌≤◌, IfOk, IfErr, OnOk, OnErr, Ok, length, not, false, [], if◌then◌else◌};
 ghost use Rattle.em_mem.specs.OldOctets.{Keeps, OldOctets as Octets};
 ghost use Rattle.em_rx.specs.Frame.{len_of};
 ghost use Rattle.em_rx.specs.Records.{frame_patch};
-ghost use Rattle.em_step.specs.Arrival.{after_accept, after_miss, after_one_more, admission, arrival, judged};
+ghost use Rattle.em_latch.specs.Counter.{octets_for_count};
+ghost use Rattle.em_step.specs.Arrival.{after_accept, after_arrived, after_miss, after_one_more, admission, arrival, judged};
 ghost use Rattle.em_step.specs.Arrival.{is_enabled, keeps_sequence, kept_frame, lacks_buffer, lacks_room};
 ghost use Rattle.em_step.specs.Arrival.{octets_stored};
 ghost use Rattle.em_step.specs.Arrival.{takes_broadcasts};
@@ -14,7 +15,7 @@ ghost use Rattle.em_step.specs.Performed.{BecameOf, LacksMemory, WasPerformed, W
 ghost use Rattle.em_step.specs.Undo.{Arrival, EffectFits, KeepsFor, ReversesPlainly, undo_effect, undo_of};
 
 use crate::adapter::Adapter;
-use crate::counts::{count_frame, count_miss};
+use crate::counts::{count_arrived, count_dropped, count_frame, count_miss};
 use crate::event::{Answer, Reason};
 use crate::refusal::Refusal;
 use crate::sequence::store_kept;
@@ -84,12 +85,15 @@ impl Adapter {
         ensures saved { OnErr result (old.new ≡ old.old) }
     {
         match verdict(&self.registers, frame) {
-            Verdict::Reject => Ok(unchanged(Reason::Rejected)),
+            Verdict::Reject => Ok((Answer::Dropped(Reason::Rejected), self.reject(frame))),
             Verdict::Undersize => Ok((
                 Answer::Dropped(Reason::Undersize),
-                self.count(Counter::Ruc),
+                self.count(frame, Counter::Ruc),
             )),
-            Verdict::Oversize => Ok((Answer::Dropped(Reason::Oversize), self.count(Counter::Roc))),
+            Verdict::Oversize => Ok((
+                Answer::Dropped(Reason::Oversize),
+                self.count(frame, Counter::Roc),
+            )),
             Verdict::Accept(kind) => self.admit(frame, kind, old),
         }
     }
@@ -104,16 +108,18 @@ impl Adapter {
         requires least { 60 ≤ length frame.now }
         requires most { length frame.now ≤ 16_380 }
         ensures ok { IfOk result (λ r.
-            BecameOf self.old frame.now (admission (shows self.old) frame.now kind) self.new r.0 (undo_of r.1 old.new)) }
+            BecameOf self.old frame.now (admission (after_arrived (shows self.old) frame.now) frame.now kind)
+            self.new r.0 (undo_of r.1 old.new)) }
         ensures keeps { IfOk result (λ r. KeepsFor r.1 old.old old.new) }
-        ensures err { IfErr result (LacksMemory (admission (shows self.old) frame.now kind)) }
+        ensures err { IfErr result
+            (LacksMemory (admission (after_arrived (shows self.old) frame.now) frame.now kind)) }
         ensures same { OnErr result (self.new ≡ self.old) }
         ensures saved { OnErr result (old.new ≡ old.old) }
     {
         if self.has_room(frame) {
             self.accept(frame, kind, old)
         } else {
-            Ok((Answer::Dropped(Reason::Missed), self.miss()))
+            Ok((Answer::Dropped(Reason::Missed), self.miss(frame)))
         }
     }
 
@@ -182,23 +188,40 @@ impl Adapter {
         }
     }
 
-    /// Steps a counter by one.
-    fn count(&mut self, counter: Counter) -> Record
-        ensures state { shows self.new ≡ after_one_more (shows self.old) counter }
+    /// Rejects a frame, which counts among all.
+    fn reject(&mut self, frame: &[u8]) -> Record
+        requires { length frame.now ≤ 20_000 }
+        ensures state { shows self.new ≡ after_arrived (shows self.old) frame.now }
         ensures cost { (o : Octets) → cost_of (undo_of result o) ≡ least_cost }
         ensures reverses { ReversesPlainly self.old self.new result }
     {
-        Record::of_latches(self.latches.count(counter, 1))
+        let profile = self.profile();
+        Record::of_latches(count_arrived(&mut self.latches, profile, octets_of(frame)))
+    }
+
+    /// Counts a frame of the wrong size.
+    fn count(&mut self, frame: &[u8], counter: Counter) -> Record
+        requires most { length frame.now ≤ 20_000 }
+        requires counter { octets_for_count counter 1 ≡ 1 }
+        ensures state { shows self.new ≡ after_one_more (after_arrived (shows self.old) frame.now) counter }
+        ensures cost { (o : Octets) → cost_of (undo_of result o) ≡ least_cost }
+        ensures reverses { ReversesPlainly self.old self.new result }
+    {
+        let profile = self.profile();
+        let octets = octets_of(frame);
+        Record::of_latches(count_dropped(&mut self.latches, profile, octets, counter))
     }
 
     /// Misses a frame.
-    fn miss(&mut self) -> Record
-        ensures state { shows self.new ≡ after_miss (shows self.old) }
+    fn miss(&mut self, frame: &[u8]) -> Record
+        requires { length frame.now ≤ 20_000 }
+        ensures state { shows self.new ≡ after_miss (after_arrived (shows self.old) frame.now) }
         ensures cost { (o : Octets) → cost_of (undo_of result o) ≡ least_cost }
         ensures reverses { ReversesPlainly self.old self.new result }
     {
+        let profile = self.profile();
         let lacks = self.lacks_buffer();
-        Record::of_latches(count_miss(&mut self.latches, lacks))
+        Record::of_latches(count_miss(&mut self.latches, profile, octets_of(frame), lacks))
     }
 
     /// Stores a frame, and counts it.
@@ -212,7 +235,8 @@ impl Adapter {
         requires most { length frame.now ≤ 16_380 }
         requires room { lacks_room (shows self.old) frame.now ≡ false }
         ensures ok { IfOk result (λ r.
-            BecameOf self.old frame.now (Answer.Stored, after_accept (shows self.old) frame.now kind)
+            BecameOf self.old frame.now
+            (Answer.Stored, after_accept (after_arrived (shows self.old) frame.now) frame.now kind)
             self.new r.0 (undo_of r.1 old.new)) }
         ensures keeps { IfOk result (λ r. KeepsFor r.1 old.old old.new) }
         ensures err { IfErr result (λ e. e ≡ Refusal.Memory) }
@@ -227,8 +251,9 @@ impl Adapter {
         };
         let broadcasts = self.takes_broadcasts();
         let lacks = self.lacks_buffer();
-        let octets = frame.len() as u32 + CHECK_OCTETS as u32;
-        let latches = count_frame(&mut self.latches, octets, kind, broadcasts, lacks);
+        let octets = octets_of(frame);
+        let profile = self.profile();
+        let latches = count_frame(&mut self.latches, profile, octets, kind, broadcasts, lacks);
         let effect = Effect::Arrival(replaced, old.place() as u32);
         Ok((Answer::Stored, Record { latches, effect }))
     }
@@ -244,6 +269,15 @@ impl Adapter {
     {
         self.fifo.put_frame_back(frame, old);
     }
+}
+
+/// How many octets a frame has on the wire, where its check sequence is behind it.
+fn octets_of(frame: &[u8]) -> u32
+    requires { length frame.now ≤ 20_000 }
+    ensures octets { result ≡ length frame.now + 4 }
+    ensures most { result < 65_536 }
+{
+    frame.len() as u32 + CHECK_OCTETS as u32
 }
 
 /// A frame was dropped that left no trace.

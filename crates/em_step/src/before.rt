@@ -160,6 +160,7 @@ impl<'a> Past<'a> {
             Kind::Status => self.status_told(now),
             Kind::EepromPins => self.pins_told(now),
             Kind::PhyCommand => self.mdic_told(now),
+            Kind::Uncounted => 0,
         }
     }
 

@@ -1,17 +1,19 @@
 //! How the latches count frames that arrive and frames that are sent (manual, chapter on statistics registers).
-ghost use Rattle.std.specs.Prelude.{◌≡◌, ◌<◌, ◌≤◌};
+ghost use Rattle.std.specs.Prelude.{◌≡◌, ◌+◌, ◌<◌, ◌≤◌};
 ghost use Rattle.em_regs.specs.Storage.{Registers};
 ghost use Rattle.em_latch.specs.Latches.{Reverses, after_raise};
 ghost use Rattle.em_latch.specs.Counter.{octets_for_count};
 ghost use Rattle.em_latch.specs.Undo.{octets_of};
 ghost use Rattle.em_step.specs.Counts.{after_buffer_count, after_frame_count, after_kind_count, after_miss_count};
 ghost use Rattle.em_step.specs.Counts.{after_sent_count, after_sent_kind, after_sent_sizes, after_size_count};
+ghost use Rattle.em_step.specs.Counts.{after_total, after_total_received, after_total_sent};
 ghost use Rattle.em_step.specs.Counts.{class_of, sent_counter, stored_counter};
+ghost use Rattle.em_latch.specs.Counter.{after_count};
 
 use bitflags::Flags;
 use em_address::Kind;
 use em_latch::{Counter, LatchUndo, Latches};
-use em_regs::Causes;
+use em_regs::{Causes, Profile};
 
 /// The fewest octets on the wire of a frame that is counted by its size: those of the first class.
 const LEAST: u32 = 64;
@@ -25,12 +27,82 @@ const BELOW_512: u32 = 511;
 
 const BELOW_1024: u32 = 1023;
 
-/// Counts a frame that is missed, and raises RXO.
-pub(crate) fn count_miss(latches: &mut Latches, lacks_buffer: bool) -> LatchUndo
-    ensures state { latches.new ≡ after_buffer_count lacks_buffer (after_miss_count latches.old) }
+/// Counts a frame that arrives among all, of so many octets on the wire.
+pub(crate) fn count_arrived(latches: &mut Latches, profile: Profile, octets: u32) -> LatchUndo
+    requires { octets < 65_536 }
+    ensures state { latches.new ≡ after_total_received profile octets latches.old }
+    ensures octets { octets_of result ≤ 5 }
     ensures reverses { Reverses latches.old latches.new result }
 {
-    let mut undo = latches.count(Counter::Mpc, 1);
+    let mut undo = LatchUndo::none();
+    count_total(
+        latches,
+        profile,
+        Counter::Tpr,
+        Counter::Tor,
+        octets,
+        &mut undo,
+    );
+    undo
+}
+
+/// Counts a frame among all, where the profile does.
+#[inline(always)]
+fn count_total(
+    latches: &mut Latches,
+    profile: Profile,
+    frames: Counter,
+    octets: Counter,
+    by: u32,
+    undo: &mut LatchUndo,
+)
+    requires frames { octets_for_count frames 1 ≡ 1 }
+    requires octets { octets_for_count octets by ≤ 4 }
+    requires room { octets_of undo.old ≡ 0 }
+    ensures state { latches.new ≡ after_total profile frames octets by latches.old }
+    ensures octets { octets_of undo.new ≤ 5 }
+    ensures reverses { (base : Registers) → Reverses base latches.old undo.old → Reverses base latches.new undo.new }
+{
+    match profile {
+        Profile::Table => {}
+        Profile::Adapter => {
+            latches.count_into(frames, 1, undo);
+            latches.count_into(octets, by, undo);
+        }
+    }
+}
+
+/// Counts a frame that is dropped for its size, by its counter and among all.
+pub(crate) fn count_dropped(
+    latches: &mut Latches,
+    profile: Profile,
+    octets: u32,
+    counter: Counter,
+) -> LatchUndo
+    requires size { octets < 65_536 }
+    requires counter { octets_for_count counter 1 ≡ 1 }
+    ensures state { latches.new ≡ after_count (after_total_received profile octets latches.old) counter 1 }
+    ensures reverses { Reverses latches.old latches.new result }
+{
+    let mut undo = count_arrived(latches, profile, octets);
+    latches.count_into(counter, 1, &mut undo);
+    undo
+}
+
+/// Counts a frame that is missed, of so many octets on the wire, and raises RXO.
+pub(crate) fn count_miss(
+    latches: &mut Latches,
+    profile: Profile,
+    octets: u32,
+    lacks_buffer: bool,
+) -> LatchUndo
+    requires { octets < 65_536 }
+    ensures state { latches.new
+        ≡ after_buffer_count lacks_buffer (after_miss_count (after_total_received profile octets latches.old)) }
+    ensures reverses { Reverses latches.old latches.new result }
+{
+    let mut undo = count_arrived(latches, profile, octets);
+    latches.count_into(Counter::Mpc, 1, &mut undo);
     latches.raise_into(Causes::RXO.bits(), &mut undo);
     count_buffer(latches, lacks_buffer, &mut undo);
     undo
@@ -39,6 +111,7 @@ pub(crate) fn count_miss(latches: &mut Latches, lacks_buffer: bool) -> LatchUndo
 /// Counts a frame that is stored, of so many octets on the wire.
 pub(crate) fn count_frame(
     latches: &mut Latches,
+    profile: Profile,
     octets: u32,
     kind: Kind,
     broadcasts: bool,
@@ -46,10 +119,11 @@ pub(crate) fn count_frame(
 ) -> LatchUndo
     requires { octets < 65_536 }
     ensures state { latches.new
-        ≡ after_buffer_count lacks_buffer (after_frame_count octets broadcasts kind latches.old) }
+        ≡ after_buffer_count lacks_buffer
+        (after_frame_count octets broadcasts kind (after_total_received profile octets latches.old)) }
     ensures reverses { Reverses latches.old latches.new result }
 {
-    let mut undo = LatchUndo::none();
+    let mut undo = count_arrived(latches, profile, octets);
     count_sizes(latches, octets, &mut undo);
     count_kind(latches, kind, broadcasts, &mut undo);
     count_buffer(latches, lacks_buffer, &mut undo);
@@ -59,9 +133,9 @@ pub(crate) fn count_frame(
 /// Counts a frame, its class and its octets.
 fn count_sizes(latches: &mut Latches, octets: u32, undo: &mut LatchUndo)
     requires size { octets < 65_536 }
-    requires room { octets_of undo.old ≡ 0 }
+    requires room { octets_of undo.old ≤ 5 }
     ensures state { latches.new ≡ after_size_count octets latches.old }
-    ensures octets { octets_of undo.new ≤ 5 }
+    ensures octets { octets_of undo.new ≤ 11 }
     ensures reverses { (base : Registers) → Reverses base latches.old undo.old → Reverses base latches.new undo.new }
 {
     latches.count_into(Counter::Gprc, 1, undo);
@@ -125,9 +199,9 @@ fn sent_counter(class: SizeClass) -> Counter
 
 /// Counts a broadcast where broadcasts are received, and a frame to another group address.
 fn count_kind(latches: &mut Latches, kind: Kind, broadcasts: bool, undo: &mut LatchUndo)
-    requires { octets_of undo.old ≤ 5 }
+    requires { octets_of undo.old ≤ 11 }
     ensures state { latches.new ≡ after_kind_count broadcasts kind latches.old }
-    ensures octets { octets_of undo.new ≤ 6 }
+    ensures octets { octets_of undo.new ≤ 12 }
     ensures reverses { (base : Registers) → Reverses base latches.old undo.old → Reverses base latches.new undo.new }
 {
     match kind {
@@ -139,7 +213,7 @@ fn count_kind(latches: &mut Latches, kind: Kind, broadcasts: bool, undo: &mut La
 
 /// Counts a frame for which no buffer is there.
 fn count_buffer(latches: &mut Latches, lacks_buffer: bool, undo: &mut LatchUndo)
-    requires { octets_of undo.old ≤ 6 }
+    requires { octets_of undo.old ≤ 12 }
     ensures state { latches.new ≡ after_buffer_count lacks_buffer latches.old }
     ensures reverses { (base : Registers) → Reverses base latches.old undo.old → Reverses base latches.new undo.new }
 {
@@ -149,13 +223,27 @@ fn count_buffer(latches: &mut Latches, lacks_buffer: bool, undo: &mut LatchUndo)
 }
 
 /// Counts a frame that was sent, of so many octets on the wire, and raises causes.
-pub(crate) fn count_sent(latches: &mut Latches, octets: u32, kind: Kind, causes: u32) -> LatchUndo
+pub(crate) fn count_sent(
+    latches: &mut Latches,
+    profile: Profile,
+    octets: u32,
+    kind: Kind,
+    causes: u32,
+) -> LatchUndo
     requires size { octets < 65_536 }
     requires causes { causes < 256 }
-    ensures state { latches.new ≡ after_raise (after_sent_count octets kind latches.old) causes }
+    ensures state { latches.new ≡ after_raise (after_sent_count profile octets kind latches.old) causes }
     ensures reverses { Reverses latches.old latches.new result }
 {
     let mut undo = LatchUndo::none();
+    count_total(
+        latches,
+        profile,
+        Counter::Tpt,
+        Counter::Tot,
+        octets,
+        &mut undo,
+    );
     count_sent_sizes(latches, octets, &mut undo);
     count_sent_kind(latches, kind, &mut undo);
     latches.raise_into(causes, &mut undo);
@@ -165,9 +253,9 @@ pub(crate) fn count_sent(latches: &mut Latches, octets: u32, kind: Kind, causes:
 /// Counts a frame that was sent, its class and its octets, if it is not too short to be counted.
 fn count_sent_sizes(latches: &mut Latches, octets: u32, undo: &mut LatchUndo)
     requires size { octets < 65_536 }
-    requires room { octets_of undo.old ≡ 0 }
+    requires room { octets_of undo.old ≤ 5 }
     ensures state { latches.new ≡ after_sent_sizes octets latches.old }
-    ensures octets { octets_of undo.new ≤ 5 }
+    ensures octets { octets_of undo.new ≤ 11 }
     ensures reverses { (base : Registers) → Reverses base latches.old undo.old → Reverses base latches.new undo.new }
 {
     if octets < LEAST {
@@ -180,9 +268,9 @@ fn count_sent_sizes(latches: &mut Latches, octets: u32, undo: &mut LatchUndo)
 
 /// Counts a broadcast that was sent, or a frame to another group address.
 fn count_sent_kind(latches: &mut Latches, kind: Kind, undo: &mut LatchUndo)
-    requires { octets_of undo.old ≤ 5 }
+    requires { octets_of undo.old ≤ 11 }
     ensures state { latches.new ≡ after_sent_kind kind latches.old }
-    ensures octets { octets_of undo.new ≤ 6 }
+    ensures octets { octets_of undo.new ≤ 12 }
     ensures reverses { (base : Registers) → Reverses base latches.old undo.old → Reverses base latches.new undo.new }
 {
     match kind {

@@ -11,7 +11,7 @@ use Rattle.em_filter.specs.Bits.{lpe}
 use Rattle.em_filter.specs.Filters.{longest, verdict}
 use Rattle.em_address.specs.Kind.{destination, kind_of}
 use Rattle.em_filter.specs.Vlan.{passes_vlan}
-use Rattle.em_step.specs.Arrival.{is_enabled, lacks_room, judgement, after_miss, after_accept, arrival}
+use Rattle.em_step.specs.Arrival.{is_enabled, lacks_room, judgement, after_arrived, after_miss, after_accept, arrival}
 use Rattle.em_step_laws.specs.Fate.{IsFate, IsTaken}
 use Rattle.em_step.specs.State.{State}
 use Rattle.em_step.specs.declared.event.Answer.{Answer}
@@ -32,7 +32,8 @@ answer r = r.0
 module _ (s : State) (f : List ℕ) where
   -- an accepted frame is stored or missed
   by_room : (kind : Kind) (lacks : Bool) → lacks_room s f ≡ lacks → IsTaken s f →
-      IsFate s f (answer (if lacks then (Dropped Missed, after_miss s) else (Stored, after_accept s f kind)))
+      IsFate s f (answer (if lacks then (Dropped Missed, after_miss (after_arrived s f))
+      else (Stored, after_accept (after_arrived s f) f kind)))
   by_room kind true room taken = (taken, grind (arith, nat_tests))
   by_room kind false room taken = (taken, grind (arith, nat_tests))
 
@@ -44,7 +45,7 @@ module _ (s : State) (f : List ℕ) where
       IsFate s f (answer (
       if not up then (Dropped Down, s)
       else if not en then (Dropped Disabled, s)
-      else judgement s f (
+      else judgement (after_arrived s f) f (
       if not acc then Reject
       else if short then TooShort
       else if long then TooLong

@@ -17,7 +17,7 @@ use Rattle.em_regs.specs.Storage.{Registers}
 use Rattle.em_regs.specs.Table.{answers_at, mask_in, mask_of, offset_of, reg_of, row_of}
 use Rattle.em_regs.specs.declared.table.Kind.{Kind}
 use Rattle.em_regs.specs.declared.table.Kind.TheVariants.{Stored as StoredKind, Control, EepromRead, Status, Interrupt, Counter}
-use Rattle.em_regs.specs.declared.table.Kind.TheVariants.{EepromPins, PhyCommand}
+use Rattle.em_regs.specs.declared.table.Kind.TheVariants.{EepromPins, PhyCommand, Uncounted}
 use Rattle.em_regs.proofs.Entries.{at-insert}
 use Rattle.em_latch.specs.Latches as latches
 use Rattle.em_eeprom.specs.Eeprom.{mac_of, word_at}
@@ -44,7 +44,7 @@ use Rattle.em_tx.specs.declared.refusal.TxRefusal.{TxRefusal}
 use Rattle.em_step.specs.Access.{after_eeprom_read, after_link, after_store, after_write, after_write_by, differ}
 use Rattle.em_step.specs.Access.{eerd_address, is_reset_by, reset}
 use Rattle.em_step.specs.Access as access
-use Rattle.em_step.specs.Arrival.{admission, arrival, is_enabled, judgement, keeps_sequence, kept_frame}
+use Rattle.em_step.specs.Arrival.{admission, after_arrived, arrival, is_enabled, judgement, keeps_sequence, kept_frame}
 use Rattle.em_step.specs.Arrival.{with_sequence}
 use Rattle.em_step.specs.Counts.{after_buffer_count, after_frame_count, after_miss_count}
 use Rattle.em_step.specs.Engines.{after_rx_answer, after_tx_answer, rx_step, rx_stepped, sending, tx_step, tx_stepped}
@@ -245,6 +245,7 @@ write_by s n reg v Interrupt h = (refl, (n, refl, h))
 write_by s n reg v Counter h = (refl, (n, refl, h))
 write_by s n reg v EepromPins h = (refl, (n, refl, h))
 write_by s n reg v PhyCommand h = (refl, (n, refl, h))
+write_by s n reg v Uncounted h = (refl, (n, refl, h))
 
 write_alike : (s : State) (n : Registers) (reg : Reg) (v : ℕ) → AgreeInRules s.registers n
     → Alike (Ok (Done, after_write s reg v)) (Ok (Done, after_write (with_registers s n) reg v))
@@ -329,13 +330,14 @@ judged_alike s n f (outcome.Accept kind) h = admission_alike s n f kind h
 -- by the link, by EN and by the verdict
 abbrev arrived : State → List ℕ → Bool → Bool → Verdict → Answer × State
 arrived s f up on v =
-    if not up then (Dropped Down, s) else if not on then (Dropped Disabled, s) else judgement s f v
+    if not up then (Dropped Down, s) else if not on then (Dropped Disabled, s)
+    else judgement (after_arrived s f) f v
 
 arrived_by : (s : State) (n : Registers) (f : List ℕ) (up on : Bool) (v : Verdict) → AgreeInRules s.registers n
     → Alike (Ok (arrived s f up on v)) (Ok (arrived (with_registers s n) f up on v))
 arrived_by s n f false on v h = (refl, (n, refl, h))
 arrived_by s n f true false v h = (refl, (n, refl, h))
-arrived_by s n f true true v h = judged_alike s n f v h
+arrived_by s n f true true v h = judged_alike (after_arrived s f) n f v h
 
 arrival_alike : (s : State) (n : Registers) (f : List ℕ) → AgreeInRules s.registers n
     → Alike (Ok (arrival s f)) (Ok (arrival (with_registers s n) f))

@@ -32,7 +32,8 @@ use Rattle.em_tx.specs.declared.answer.TxAnswer.TheVariants as tx_answer
 use Rattle.em_tx.specs.declared.refusal.TxRefusal.{TxRefusal}
 use Rattle.em_step.specs.Access.{after_eeprom_read, after_link, after_read, after_store, after_write, after_write_by}
 use Rattle.em_step.specs.Access.{differ, eerd_address, gives, has, is_reset_by, reset}
-use Rattle.em_step.specs.Arrival.{after_accept, after_miss, arrival, is_enabled, judged, judgement, lacks_room}
+use Rattle.em_step.specs.Arrival.{after_accept, after_arrived, after_miss, arrival, is_enabled, judged, judgement}
+use Rattle.em_step.specs.Arrival.{lacks_room}
 use Rattle.em_step.specs.Cells.{fresh_as, shows}
 use Rattle.em_step.specs.Engines.{after_rx_answer, after_tx_answer, received, rx_stepped, transmitted}
 use Rattle.em_step.specs.Engines.{tx_stepped, with_outcome, with_shown}
@@ -135,7 +136,7 @@ arrival_keeps : (down off : Bool) (s : State) (f : List ℕ) → KeepsLength s.r
     → Keeps (if down then (Dropped Down, s) else if off then (Dropped Disabled, s) else judged s f)
 arrival_keeps true off s f few = few
 arrival_keeps false true s f few = few
-arrival_keeps false false s f few = judgement_keeps s f (verdict s.registers f) few
+arrival_keeps false false s f few = judgement_keeps (after_arrived s f) f (verdict s.registers f) few
 
 arrive_keeps : (bad : Bool) (x r : Answer × State) → Keeps x → (if bad then Err Length else Ok x) ≡ Ok r → Keeps r
 arrive_keeps true x r few is = cc

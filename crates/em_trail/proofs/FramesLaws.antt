@@ -8,7 +8,7 @@ use Rattle.em_regs.specs.declared.reg.Reg.{Reg}
 use Rattle.em_regs.specs.declared.setup.TxSetup.{TxSetup}
 use Rattle.em_regs.specs.declared.table.Kind.{Kind}
 use Rattle.em_regs.specs.declared.table.Kind.TheVariants.{Stored, Control, EepromRead, Status, Interrupt, Counter}
-use Rattle.em_regs.specs.declared.table.Kind.TheVariants.{EepromPins, PhyCommand}
+use Rattle.em_regs.specs.declared.table.Kind.TheVariants.{EepromPins, PhyCommand, Uncounted}
 use Rattle.em_regs.specs.Setup.{tx_setup}
 use Rattle.em_regs.specs.Table.{answers_at, reg_of, row_of}
 use Rattle.em_latch.specs.Latches.{is_latched}
@@ -30,7 +30,7 @@ use Rattle.em_tx.specs.declared.answer.TxAnswer.TheVariants as tx_answer
 use Rattle.em_tx.specs.declared.refusal.TxRefusal.{TxRefusal}
 use Rattle.em_tx.specs.declared.refusal.TxRefusal.TheVariants as tx_refusal
 use Rattle.em_step.specs.Access.{after_link, after_read, after_write, after_write_by, differ, gives, gives_by, has, is_reset_by}
-use Rattle.em_step.specs.Arrival.{arrival, is_enabled, judgement, lacks_room}
+use Rattle.em_step.specs.Arrival.{after_arrived, arrival, is_enabled, judgement, lacks_room}
 use Rattle.em_step.specs.Engines.{after_rx_answer, after_tx_answer, received, rx_stepped, sending, transmitted, tx_stepped}
 use Rattle.em_step.specs.Engines.{with_outcome, with_shown}
 use Rattle.em_step.specs.Event.{Event, reads, writes, pokes, arrives, links, receives, transmits}
@@ -85,6 +85,7 @@ gives_same k Interrupt s reg = refl
 gives_same k Counter s reg = refl
 gives_same k EepromPins s reg = refl
 gives_same k PhyCommand s reg = refl
+gives_same k Uncounted s reg = refl
 
 read_same : (k : ℕ) (s : State) (reg : Reg)
     → (Value (gives (without_frames k s) reg), after_read (without_frames k s) reg)
@@ -104,6 +105,7 @@ write_same k Interrupt s reg v = refl
 write_same k Counter s reg v = refl
 write_same k EepromPins s reg v = refl
 write_same k PhyCommand s reg v = refl
+write_same k Uncounted s reg v = refl
 
 poke_same : (k : ℕ) (few many : Bool) (e f : Refusal) (x : Answer × State)
     → cond few (Err e) (cond many (Err f) (Ok (without_of k x)))
@@ -127,7 +129,7 @@ judged_same k s f (Accept kind) = either_of k (lacks_room s f) _ _ _ _ refl refl
 arrival_same : (k : ℕ) (s : State) (f : List ℕ) → arrival (without_frames k s) f ≡ without_of k (arrival s f)
 arrival_same k s f =
     either_of k (not s.link) _ _ _ _ refl
-    (either_of k (not (is_enabled s)) _ _ _ _ refl (judged_same k s f (verdict s.registers f)))
+    (either_of k (not (is_enabled s)) _ _ _ _ refl (judged_same k (after_arrived s f) f (verdict s.registers f)))
 
 rx_answer_same : (k : ℕ) (s : State) (a : RxAnswer)
     → after_rx_answer (without_frames k s) a ≡ without_of k (after_rx_answer s a)
@@ -264,6 +266,7 @@ write_grows Interrupt s reg v = all (length s.wire)
 write_grows Counter s reg v = all (length s.wire)
 write_grows EepromPins s reg v = all (length s.wire)
 write_grows PhyCommand s reg v = all (length s.wire)
+write_grows Uncounted s reg v = all (length s.wire)
 
 poke_grows : (few many : Bool) (e f : Refusal) (n : ℕ) (x r : Answer × State) → Grows n x
     → cond few (Err e) (cond many (Err f) (Ok x)) ≡ Ok r → Grows n r
@@ -287,7 +290,7 @@ arrival_grows : (s : State) (f : List ℕ) → Grows (length s.wire) (arrival s 
 arrival_grows s f =
     either_of_grows (not s.link) _ _ (length s.wire) (all (length s.wire))
     (either_of_grows (not (is_enabled s)) _ _ (length s.wire) (all (length s.wire))
-    (judged_grows s f (verdict s.registers f)))
+    (judged_grows (after_arrived s f) f (verdict s.registers f)))
 
 rx_answer_grows : (s : State) (a : RxAnswer) → Grows (length s.wire) (after_rx_answer s a)
 rx_answer_grows s rx_answer.Idle = all (length s.wire)

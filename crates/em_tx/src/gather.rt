@@ -43,6 +43,17 @@ impl Gather {
         }
     }
 
+    /// These octets gathered, with room for the longest frame where there are any.
+    pub fn of_octets(alloc: Global, octets: &[u8]) -> Result<Gather, AllocError>
+        ensures { IfOk result (λ made. made.octets ≡ octets.now) }
+    {
+        if octets.is_empty() {
+            return Ok(Gather::new(alloc));
+        }
+        let octets = copy_octets(alloc, octets, octets.len().max(ROOM))?;
+        Ok(Gather { octets })
+    }
+
     /// The same octets once more, with as much room.
     pub fn copy(&self) -> Result<Gather, AllocError>
         ensures { IfOk result (λ copy. copy ≡ self.now) }

@@ -1,5 +1,5 @@
 //! The frames that were sent.
-ghost use Rattle.std.specs.Prelude.{◌≡◌, ◌++◌, ◌∷◌, ◌-◌, ◌<◌, ◌≤◌, [], ℕ, IfOk, OnOk, length, map, slice_get, slice_index};
+ghost use Rattle.std.specs.Prelude.{◌≡◌, ◌++◌, ◌∷◌, ◌-◌, ◌<◌, ◌≤◌, [], ℕ, IfOk, OnErr, OnOk, length, map, slice_get, slice_index};
 ghost use Rattle.std.specs.Prelude.{drop, slice_index_or};
 ghost use Rattle.em_tx.specs.Undo.{front_of, last_of};
 ghost use Rattle.em_tx.specs.Wire.{AreLaid, HasRoom, let_go, plain};
@@ -68,6 +68,16 @@ impl Wire {
         } else {
             None
         }
+    }
+
+    /// Puts a frame behind the others. Where memory is refused, the wire is as it was.
+    pub fn add(&mut self, frame: &[u8]) -> Result<(), AllocError>
+        ensures ok { OnOk result (self.new ≡ self.old ++ frame.now ∷ []) }
+        ensures same { OnErr result (self.new ≡ self.old) }
+    {
+        self.frames.reserve(frame.len())?;
+        self.frames.push(frame);
+        Ok(())
     }
 
     /// Lets go of the octets of the first frames: these are empty from then on, and stay on the wire. The memory is used

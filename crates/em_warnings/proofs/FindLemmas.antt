@@ -96,18 +96,29 @@ neither : {X : Type 0} (a b : Option X) → option_or a b ≡ None → (a ≡ No
 neither None b e = (refl, e)
 neither (Some x) b e = cc
 
+-- ---- a search from the head on, going round
+
+pub round_found : (p : ℕ → Bool) (head count i : ℕ)
+    → option_or (find p (range_with_len head (count - head))) (find p (range_with_len 0 (head - 0))) ≡ Some i
+    → p i ≡ true
+round_found p head count i e =
+    found_by p (find p (range_with_len head (count - head))) (find p (range_with_len 0 (head - 0))) i
+    (find_passes p (range_with_len head (count - head)) i) (find_passes p (range_with_len 0 (head - 0)) i) e
+
+pub round_none : (p : ℕ → Bool) (head count : ℕ)
+    → option_or (find p (range_with_len head (count - head))) (find p (range_with_len 0 (head - 0))) ≡ None
+    → (i : ℕ) → i < count → p i ≡ false
+round_none p head count e i below =
+    let none = neither (find p (range_with_len head (count - head))) (find p (range_with_len 0 (head - 0))) e in
+    elim (cases_lt i head) [
+      | inl before ↦ fails_from p 0 head i none.1 (omega arith) before
+      | inr behind ↦ fails_from p head count i none.0 behind below
+    ]
+
 pub flaw_found : (r : Ring) (v : View) (flaw : Flaw) (i : ℕ) → first_flawed r v flaw ≡ Some i
     → is_flawed r v flaw i ≡ true
-flaw_found r v flaw i e =
-    let p = is_flawed r v flaw in
-    found_by p (first_from r v flaw r.head r.count) (first_from r v flaw 0 r.head) i
-    (find_passes p (range_with_len r.head (r.count - r.head)) i) (find_passes p (range_with_len 0 (r.head - 0)) i) e
+flaw_found r v flaw i e = round_found (is_flawed r v flaw) r.head r.count i e
 
 pub no_flaw : (r : Ring) (v : View) (flaw : Flaw) → first_flawed r v flaw ≡ None → (i : ℕ) → i < r.count
     → is_flawed r v flaw i ≡ false
-no_flaw r v flaw e i below =
-    let none = neither (first_from r v flaw r.head r.count) (first_from r v flaw 0 r.head) e in
-    elim (cases_lt i r.head) [
-      | inl before ↦ fails_from (is_flawed r v flaw) 0 r.head i none.1 (omega arith) before
-      | inr behind ↦ fails_from (is_flawed r v flaw) r.head r.count i none.0 behind below
-    ]
+no_flaw r v flaw e i below = round_none (is_flawed r v flaw) r.head r.count e i below

@@ -2,6 +2,10 @@ pub mod Flaw
 pub mod Written
 pub mod Descriptors
 pub mod Rings
+pub mod Before
+pub mod Heads
+pub mod Overlaps
+pub mod Owned
 pub mod Rules
 pub mod Said
 pub mod WriteLine

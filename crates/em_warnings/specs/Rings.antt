@@ -1,5 +1,5 @@
 -- The ring that a register belongs to.
-use Rattle.std.specs.Prelude.{Option, Some, None}
+use Rattle.std.specs.Prelude.{if◌then◌else◌, Option, Some, None}
 use Rattle.em_regs.specs.declared.reg.Reg.{Reg}
 use Rattle.em_regs.specs.declared.reg.Reg.TheVariants as reg
 use Rattle.em_regs.specs.Setup.{rx_setup, tx_setup}
@@ -20,6 +20,38 @@ abbrev pub ring_of_control : Registers → Reg → Option SidedRing
 ring_of_control m reg.Rctl = Some (rx_ring (rx_setup m))
 ring_of_control m reg.Tctl = Some (tx_ring (tx_setup m))
 ring_of_control m _ = None
+
+-- the ring whose head the register is
+abbrev pub ring_of_head : Registers → Reg → Option SidedRing
+ring_of_head m reg.Rdh = Some (rx_ring (rx_setup m))
+ring_of_head m reg.Tdh = Some (tx_ring (tx_setup m))
+ring_of_head m _ = None
+
+-- a ring, if it is enabled
+abbrev pub where_enabled : SidedRing → Option SidedRing
+where_enabled r = if r.setup.enabled then Some r else None
+
+-- the ring of whose tail a write of the register asks: of a tail always; of a length, and of what enables the ring, where it
+-- is enabled then
+abbrev pub ring_asked : Registers → Reg → Option SidedRing
+ring_asked m reg.Rdlen = where_enabled (rx_ring (rx_setup m))
+ring_asked m reg.Rctl = where_enabled (rx_ring (rx_setup m))
+ring_asked m reg.Tdlen = where_enabled (tx_ring (tx_setup m))
+ring_asked m reg.Tctl = where_enabled (tx_ring (tx_setup m))
+ring_asked m reg = ring_of_tail m reg
+
+-- the registers of a ring's tail and head, and the one that enables it
+abbrev pub tail_of : Side → Reg
+tail_of (Receive size) = reg.Rdt
+tail_of Transmit = reg.Tdt
+
+abbrev pub head_of : Side → Reg
+head_of (Receive size) = reg.Rdh
+head_of Transmit = reg.Tdh
+
+abbrev pub control_of : Side → Reg
+control_of (Receive size) = reg.Rctl
+control_of Transmit = reg.Tctl
 
 -- the register of a ring's length
 abbrev pub length_of : Side → Reg

@@ -5,6 +5,7 @@ use Rattle.std.specs.Prelude.{
   ◌&&◌,
   nat_le,
   nat_lt,
+  ◌*◌,
   not,
   bit_and,
   if◌then◌else◌,
@@ -38,7 +39,11 @@ use Rattle.em_warnings.specs.declared.flaw.Flaw.TheVariants as flaw
 use Rattle.em_warnings.specs.declared.warning.Warning.{Warning}
 use Rattle.em_warnings.specs.declared.warning.Warning.TheVariants as warning
 use Rattle.em_warnings.specs.Descriptors.{first_flawed}
-use Rattle.em_warnings.specs.Rings.{length_of, ring_of_control, ring_of_tail}
+use Rattle.em_mem.specs.Memory.{leaves}
+use Rattle.em_regs.specs.declared.ring.Ring.{Ring}
+use Rattle.em_warnings.specs.Heads.{head_while_enabled, tail_past_head}
+use Rattle.em_warnings.specs.Overlaps.{buffers_overlap}
+use Rattle.em_warnings.specs.Rings.{length_of, ring_asked, ring_of_control, ring_of_tail, tail_of}
 
 -- ---- bits-dropped (manual, chapter on register descriptions: the bits that each register has)
 
@@ -56,12 +61,14 @@ bits_dropped reg v =
 -- ---- tail-past-ring (manual, chapters on the descriptor queues: the tail is an index of the ring)
 
 -- a ring of some descriptors, whose tail is none of their indices
-abbrev pub past_ring : Reg → SidedRing → Option Warning
-past_ring tail r =
-    if nat_lt 0 r.setup.count && nat_le r.setup.count r.setup.tail then Some (warning.TailPastRing tail r.setup.tail r.setup.count) else None
+abbrev pub past_ring : SidedRing → Option Warning
+past_ring r =
+    if nat_lt 0 r.setup.count && nat_le r.setup.count r.setup.tail
+    then Some (warning.TailPastRing (tail_of r.side) r.setup.tail r.setup.count) else None
 
+-- asked of a tail that is written; and where the ring is enabled, of its length and of what enables it
 abbrev pub tail_past_ring : State → Reg → Option Warning
-tail_past_ring s tail = option_and_then (past_ring tail) (ring_of_tail s.registers tail)
+tail_past_ring s reg = option_and_then past_ring (ring_asked s.registers reg)
 
 -- ---- enabled-before-ring (manual, chapter on initialization: the ring is set up, and then EN is set)
 
@@ -72,6 +79,23 @@ without_ring control r =
 
 abbrev pub enabled_before_ring : State → Reg → Option Warning
 enabled_before_ring s control = option_and_then (without_ring control) (ring_of_control s.registers control)
+
+-- ---- ring-outside-memory (manual, chapters on the descriptor queues: the base is that of the ring in host memory)
+
+-- a descriptor is the adapter's
+abbrev pub is_given : Ring → Bool
+is_given r = nat_lt r.head r.count && nat_lt r.tail r.count && not (r.head == r.tail)
+
+-- the ring leaves guest memory
+abbrev pub leaves_memory : State → Ring → Bool
+leaves_memory s r = leaves s.base s.memory r.base (16 * r.count)
+
+abbrev pub outside_memory : State → Reg → SidedRing → Option Warning
+outside_memory s tail r =
+    if is_given r.setup && leaves_memory s r.setup then Some (warning.RingOutsideMemory tail r.setup.base) else None
+
+abbrev pub ring_outside_memory : State → Reg → Option Warning
+ring_outside_memory s tail = option_and_then (outside_memory s tail) (ring_of_tail s.registers tail)
 
 -- ---- descriptor-unwritten (manual, chapters on the descriptor queues: what lies before the tail is ready)
 
@@ -125,7 +149,11 @@ interrupts_before_rings s _ = None
 
 -- rules besides the first ask about the register
 abbrev pub is_of_ring : Reg → Bool
+is_of_ring reg.Rdlen = true
+is_of_ring reg.Rdh = true
 is_of_ring reg.Rdt = true
+is_of_ring reg.Tdlen = true
+is_of_ring reg.Tdh = true
 is_of_ring reg.Tdt = true
 is_of_ring reg.Rctl = true
 is_of_ring reg.Tctl = true
@@ -134,7 +162,7 @@ is_of_ring _ = false
 
 -- what rules say where one alone is asked
 abbrev pub alone : Option Warning → List (Option Warning)
-alone w = w ∷ None ∷ None ∷ None ∷ None ∷ None ∷ []
+alone w = w ∷ None ∷ None ∷ None ∷ None ∷ None ∷ None ∷ None ∷ None ∷ None ∷ []
 
 -- what each rule says of a write of a value to a register, in their order
 abbrev pub warnings_of : View → Reg → ℕ → List (Option Warning)
@@ -142,7 +170,11 @@ warnings_of v reg value =
     bits_dropped reg value
     ∷ tail_past_ring v.present reg
     ∷ enabled_before_ring v.present reg
+    ∷ ring_outside_memory v.present reg
     ∷ descriptor_unwritten v reg
     ∷ status_left v reg
+    ∷ buffers_overlap v reg
+    ∷ tail_past_head v reg
+    ∷ head_while_enabled v reg
     ∷ interrupts_before_rings v.present reg
     ∷ []

@@ -1,15 +1,17 @@
 -- The warnings of an event.
-use Rattle.std.specs.Prelude.{ℕ, suc, ◌==◌, if◌then◌else◌, Bool, true, false, List, [], ◌∷◌, Option, Some, None, Result, Ok}
+use Rattle.std.specs.Prelude.{ℕ, suc, length, ◌==◌, if◌then◌else◌, Bool, true, false, List, [], ◌∷◌, Option, Some, None, Result, Ok}
 use Rattle.std.specs.List.{flat_map}
 use Rattle.em_regs.specs.declared.reg.Reg.{Reg}
 use Rattle.em_regs.specs.declared.reg.Reg.TheVariants.{Icr}
-use Rattle.em_step.specs.Event.{Event}
+use Rattle.em_step.specs.Event.{Event, pokes}
 use Rattle.em_step.specs.declared.event.Answer.{Answer}
 use Rattle.em_step.specs.declared.event.Answer.TheVariants as answer
 use Rattle.em_step.specs.declared.refusal.Refusal.{Refusal}
 use Rattle.em_expect.specs.Difference.{register_of}
 use Rattle.em_journal.specs.View.{View}
 use Rattle.em_warnings.specs.declared.warning.Warning.{Warning}
+use Rattle.em_inspect.specs.declared.extent.Extent.{Extent}
+use Rattle.em_warnings.specs.Owned.{written_while_owned}
 use Rattle.em_warnings.specs.Reads.{read_again}
 use Rattle.em_warnings.specs.Rules.{alone, warnings_of}
 use Rattle.em_warnings.specs.Said.{warning_text}
@@ -36,9 +38,14 @@ abbrev pub of_write : View → Option (Reg × ℕ) → Option (List (Option Warn
 of_write v None = None
 of_write v (Some write) = Some (warnings_of v write.0 write.1)
 
--- of an event that was done, if it is a write
+-- octets that were written to guest memory
+abbrev pub extent_written : ℕ → List ℕ → Extent
+extent_written at octets = record { at = at; size = length octets }
+
+-- of an event that was done: a write of guest memory, of which one rule asks, or one of a register
 abbrev pub of_done : View → Option Event → Option (List (Option Warning))
 of_done v None = None
+of_done v (Some (pokes at octets)) = Some (alone (written_while_owned v.present (extent_written at octets)))
 of_done v (Some e) = of_write v (written_by e)
 
 -- of a read of a register that gave 0: one rule asks about ICR

@@ -73,7 +73,7 @@ fn has_flaw(
 }
 
 /// Where a descriptor lies that lies in memory.
-fn place(ring: &Ring, index: u32) -> u64
+pub(crate) fn place(ring: &Ring, index: u32) -> u64
     ensures { result ≡ descriptor_at ring.now index % 2 ^ 64 }
 {
     ring.base.wrapping_add(16 * u64::from(index))

@@ -6,19 +6,21 @@ ghost use Rattle.em_text.specs.Writer.{Writes};
 ghost use Rattle.em_warnings.specs.Warnings.{found_count, found_of, found_text, is_asked, line_of, lines_of, of_done};
 ghost use Rattle.em_warnings.specs.Warnings.{of_read, of_write, there};
 
+use crate::owned::written_while_owned;
 use crate::reads::read_again;
 use crate::rules::{RULES, alone, warnings_of};
 use crate::said::write_warning;
 use crate::warning::Warning;
 use crate::write_line::written_by;
 use em_expect::register_of;
+use em_inspect::Extent;
 use em_journal::Machine;
 use em_regs::Reg;
 use em_step::{Answer, Event, Refusal};
 use em_text::WriteFailed;
 use std::io::Write;
 
-/// What each rule says of an access, in the order of the rules, if they are asked.
+/// What each rule says of an event, in the order of the rules, if they are asked.
 pub type Found = Option<[Option<Warning>; RULES]>;
 
 /// Whether the rules are asked of what came to this. Most of what lines come to has no warning, whatever they say: so a line
@@ -30,7 +32,8 @@ pub fn is_asked(came: Option<Result<Answer, Refusal>>) -> bool
 }
 
 /// What each rule says of an event that came to this, in the order of the rules, if they are asked: only a write of a register
-/// that was done has warnings, and a read of ICR that gave 0 one. The machine is as the event left it.
+/// that was done has warnings, and a write of guest memory and a read of ICR that gave 0 one each. The machine is as the event
+/// left it.
 pub fn found_of(
     machine: &Machine,
     event: Option<Event<'_>>,
@@ -45,11 +48,18 @@ pub fn found_of(
     }
 }
 
-/// What each rule says of an event that was done, if it is a write.
+/// What each rule says of an event that was done: a write of a register, or one of guest memory, of which one rule asks.
 fn of_done(machine: &Machine, event: Option<Event<'_>>) -> Found
     ensures { result ≡ of_done machine.now (option_map plain event.entry) }
 {
     match event {
+        Some(Event::Poke(at, octets)) => {
+            let write = Extent {
+                at,
+                size: octets.len() as u64,
+            };
+            Some(alone(written_while_owned(machine, write)))
+        }
         Some(event) => of_write(machine, written_by(event)),
         None => None,
     }

@@ -6,11 +6,13 @@ ghost use Rattle.em_warnings.specs.Rules as rules;
 
 use crate::descriptors::first_flawed;
 use crate::flaw::Flaw;
-use crate::rings::{length_of, ring_of_control, ring_of_tail};
+use crate::heads::{head_while_enabled, tail_past_head};
+use crate::overlaps::buffers_overlap;
+use crate::rings::{length_of, ring_asked, ring_of_control, ring_of_tail, tail_of};
 use crate::warning::Warning;
 use em_inspect::Side;
 use em_journal::Machine;
-use em_regs::{Kind, Reg};
+use em_regs::{DESCRIPTOR_OCTETS, Kind, Reg, Ring};
 
 /// The causes of receiving: RXDMT0, RXO, RXT0 and SRPD.
 pub(crate) const RX_CAUSES: u32 = 0x0001_00D0;
@@ -19,7 +21,7 @@ pub(crate) const RX_CAUSES: u32 = 0x0001_00D0;
 const TX_CAUSES: u32 = 0x0000_8003;
 
 /// How many rules are asked of a write of a register.
-pub const RULES: usize = 6;
+pub const RULES: usize = 10;
 
 /// What each rule says of a write of a value to a register, in the order of the rules; none where it says nothing. The
 /// machine is as the write left it.
@@ -34,24 +36,41 @@ pub fn warnings_of(machine: &Machine, reg: Reg, value: u32) -> [Option<Warning>;
         bits_dropped(reg, value),
         tail_past_ring(machine, reg),
         enabled_before_ring(machine, reg),
+        ring_outside_memory(machine, reg),
         descriptor_unwritten(machine, reg),
         status_left(machine, reg),
+        buffers_overlap(machine, reg),
+        tail_past_head(machine, reg),
+        head_while_enabled(machine, reg),
         interrupts_before_rings(machine, reg),
     ]
 }
 
 /// What rules say where one alone is asked.
-pub(crate) fn alone(warning: Option<Warning>) -> [Option<Warning>; RULES]
+pub fn alone(warning: Option<Warning>) -> [Option<Warning>; RULES]
     ensures { result ≡ rules.alone warning }
 {
-    [warning, None, None, None, None, None]
+    [
+        warning, None, None, None, None, None, None, None, None, None,
+    ]
 }
 
-/// Whether rules besides the first ask about a register: a tail, what enables a ring, or IMS.
+/// Whether rules besides the first ask about a register: a ring's length, head or tail, what enables it, or IMS.
 fn is_of_ring(reg: Reg) -> bool
     ensures { result ≡ rules.is_of_ring reg }
 {
-    matches!(reg, Reg::Rdt | Reg::Tdt | Reg::Rctl | Reg::Tctl | Reg::Ims)
+    matches!(
+        reg,
+        Reg::Rdlen
+            | Reg::Rdh
+            | Reg::Rdt
+            | Reg::Tdlen
+            | Reg::Tdh
+            | Reg::Tdt
+            | Reg::Rctl
+            | Reg::Tctl
+            | Reg::Ims
+    )
 }
 
 /// The register keeps less than was written, and a write of it only stores.
@@ -67,14 +86,14 @@ fn bits_dropped(reg: Reg, written: u32) -> Option<Warning>
     }
 }
 
-/// The register is a tail, and past its ring.
-fn tail_past_ring(machine: &Machine, tail: Reg) -> Option<Warning>
-    ensures { result ≡ rules.tail_past_ring machine.now.present tail }
+/// The register is a tail, or makes a tail count, and the tail is past its ring.
+fn tail_past_ring(machine: &Machine, reg: Reg) -> Option<Warning>
+    ensures { result ≡ rules.tail_past_ring machine.now.present reg }
 {
-    let ring = ring_of_tail(machine, tail)?;
+    let ring = ring_asked(machine, reg)?;
     if 0 < ring.setup.count && ring.setup.count <= ring.setup.tail {
         Some(Warning::TailPastRing {
-            tail,
+            tail: tail_of(ring.side),
             index: ring.setup.tail,
             count: ring.setup.count,
         })
@@ -96,6 +115,36 @@ fn enabled_before_ring(machine: &Machine, control: Reg) -> Option<Warning>
     } else {
         None
     }
+}
+
+/// The register is a tail, and gives descriptors of a ring that leaves guest memory.
+fn ring_outside_memory(machine: &Machine, tail: Reg) -> Option<Warning>
+    ensures { result ≡ rules.ring_outside_memory machine.now.present tail }
+{
+    let ring = ring_of_tail(machine, tail)?;
+    if is_given(&ring.setup) && leaves_memory(machine, &ring.setup) {
+        Some(Warning::RingOutsideMemory {
+            tail,
+            at: u128::from(ring.setup.base),
+        })
+    } else {
+        None
+    }
+}
+
+/// Whether a descriptor of a ring is the adapter's.
+fn is_given(ring: &Ring) -> bool
+    ensures { result ≡ rules.is_given ring.now }
+{
+    ring.head < ring.count && ring.tail < ring.count && ring.head != ring.tail
+}
+
+/// Whether a ring leaves guest memory.
+fn leaves_memory(machine: &Machine, ring: &Ring) -> bool
+    ensures { result ≡ rules.leaves_memory machine.now.present ring.now }
+{
+    let end = u128::from(ring.base) + DESCRIPTOR_OCTETS as u128 * u128::from(ring.count);
+    ring.base < machine.memory_base() || u128::from(machine.memory_end()) < end
 }
 
 /// The register is a tail, and a descriptor before it is all zeros.

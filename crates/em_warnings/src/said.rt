@@ -1,8 +1,9 @@
 //! What is said of a warning.
 ghost use Rattle.std.specs.Prelude.{◌≡◌};
 ghost use Rattle.em_text.specs.Writer.{Writes};
-ghost use Rattle.em_warnings.specs.Said.{head_text, name_of, said, warning_text};
+ghost use Rattle.em_warnings.specs.Said.{head_text, name_of, rule_name, said, warning_text};
 
+use crate::rule::Rule;
 use crate::warning::Warning;
 use em_pieces::{Piece, write_text};
 use em_text::{WriteFailed, write_whole};
@@ -30,9 +31,52 @@ macro_rules! table {
             InterruptsBeforeRings { causes, length }, "interrupts-before-rings",
                 Text(b"IMS lets ") Value(causes) Text(b" through while ") Name(length)
                 Text(b" is 0, set up the ring first");
+            RingOutsideMemory { tail, at }, "ring-outside-memory",
+                Name(tail) Text(b" gives the adapter descriptors of a ring at ") Address(at)
+                Text(b" that leaves guest memory, write its base anew");
+            BuffersOverlap { tail, index, at }, "buffers-overlap",
+                Name(tail) Text(b" gives the adapter descriptor ") Number(u64::from(index)) Text(b" at ") Address(at)
+                Text(b" whose buffer lies over another one's, give each octets of its own");
+            TailPastHead { tail, index, count }, "tail-past-head",
+                Name(tail) Text(b" ") Number(u64::from(index)) Text(b" goes past the head of the ring of ")
+                Number(u64::from(count)) Text(b", leave one descriptor free");
+            HeadWhileEnabled { head, control }, "head-while-enabled",
+                Name(head) Text(b" is moved while ") Name(control) Text(b".EN is set, clear EN first");
+            WrittenWhileOwned { head, index, at }, "written-while-owned",
+                Text(b"descriptor ") Number(u64::from(index)) Text(b" at ") Address(at)
+                Text(b" or its buffer is written while it is the adapter's, wait until ") Name(head) Text(b" is past it");
             ReadAgain { causes }, "read-again",
                 Text(b"ICR is 0, an earlier event cleared ") Value(causes)
                 Text(b" there and the frame still waits, read it once and keep it");
+        }
+    };
+}
+
+/// All rules, as an array.
+macro_rules! all {
+    ($none:expr; $($rule:ident { $($number:ident),* }, $name:literal, $($piece:ident($value:expr))*;)*) => {
+        [$(Rule::$rule),*]
+    };
+}
+
+/// How many they are, beside so many others.
+macro_rules! count {
+    ($others:expr; $($rule:ident { $($number:ident),* }, $name:literal, $($piece:ident($value:expr))*;)*) => {
+        $others $(+ one!($rule))*
+    };
+}
+
+macro_rules! one {
+    ($rule:ident) => {
+        1
+    };
+}
+
+/// The name of a rule.
+macro_rules! called {
+    ($of:expr; $($rule:ident { $($number:ident),* }, $name:literal, $($piece:ident($value:expr))*;)*) => {
+        match $of {
+            $(Rule::$rule => $name,)*
         }
     };
 }
@@ -55,7 +99,28 @@ macro_rules! told {
     };
 }
 
+/// How many rules there are.
+const RULE_COUNT: usize = table!(count 0);
+
+/// All rules, in their order.
+pub static ALL_RULES: [Rule; RULE_COUNT] = table!(all());
+
+impl Rule {
+    ghost use Rattle.std.specs.Prelude.{◌≡◌};
+    ghost use Rattle.em_warnings.specs.Said.{rule_name};
+
+    /// Its name, as it is printed.
+    pub fn name(self) -> &'static str
+        ensures { result.now ≡ rule_name self }
+    {
+        table!(called self)
+    }
+}
+
 impl Warning {
+    ghost use Rattle.std.specs.Prelude.{◌≡◌};
+    ghost use Rattle.em_warnings.specs.Said.{name_of};
+
     /// The name of the rule, as it is printed.
     pub fn name(self) -> &'static str
         ensures { result.now ≡ name_of self }
@@ -88,7 +153,7 @@ fn write_head<W: Write>(writer: &mut W, warning: Warning) -> Result<(), WriteFai
 }
 
 /// Writes what the rule of a warning says, with its numbers, and what to do.
-fn write_said<W: Write>(writer: &mut W, warning: Warning) -> Result<(), WriteFailed>
+pub fn write_said<W: Write>(writer: &mut W, warning: Warning) -> Result<(), WriteFailed>
     ensures writes { Writes (W.contents writer.old) (W.contents writer.new) result (said warning) }
 {
     table!(told writer, warning)

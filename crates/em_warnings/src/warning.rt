@@ -18,6 +18,18 @@ pub enum Warning {
     StatusLeft { tail: Reg, index: u32, at: u128 },
     /// `interrupts-before-rings`: these causes of a ring are let through while the ring's length is 0.
     InterruptsBeforeRings { causes: u32, length: Reg },
+    /// `ring-outside-memory`: the adapter owns descriptors of a ring that begins at this address, and leaves guest memory.
+    RingOutsideMemory { tail: Reg, at: u128 },
+    /// `buffers-overlap`: the adapter is given a receive descriptor, at this address (octets), whose buffer lies over that
+    /// of another one.
+    BuffersOverlap { tail: Reg, index: u32, at: u128 },
+    /// `tail-past-head`: the tail went past the head, so that the adapter has fewer descriptors than it was given.
+    TailPastHead { tail: Reg, index: u32, count: u32 },
+    /// `head-while-enabled`: the head is moved by the driver while EN is set in RCTL or TCTL.
+    HeadWhileEnabled { head: Reg, control: Reg },
+    /// `written-while-owned`: octets were written that are the adapter's: of this descriptor, at this address (octets),
+    /// or of its buffer.
+    WrittenWhileOwned { head: Reg, index: u32, at: u128 },
     /// `read-again`: a read of ICR gave 0, since an earlier event cleared these causes there, and the frame still waits.
     ReadAgain { causes: u32 },
 }

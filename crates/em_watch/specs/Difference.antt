@@ -2,6 +2,8 @@
 use Rattle.std.specs.Prelude.{◌≡◌, ◌≢◌, ℕ, ◌-◌, ◌<◌, ◌≤◌, Some, slice_get}
 use Rattle.em_regs.specs.declared.reg.Reg.{Reg}
 use Rattle.em_regs.specs.Table.{IsReg, offset_of}
+use Rattle.em_step.specs.Before.{register_before}
+use Rattle.em_step.specs.Undo.{Undo}
 use Rattle.em_journal.specs.View.{View}
 use Rattle.em_watch.specs.Change.{SeesSame}
 use Rattle.em_watch.specs.Watching.{sights}
@@ -24,6 +26,10 @@ LeavesAsItIs w v back = SeesSame w v back (back - 1)
 pub record IsRegisterChange (v : View) (back : ℕ) (change : RegisterChange) : Type 0 where
   pub register : IsReg change.reg
   pub difference : IsDifference (Register change.reg) v back change.difference
+
+-- a record leaves a register as it is, whatever it holds
+abbrev pub LeavesAlone : Undo → Reg → Type 0
+LeavesAlone r reg = (value : ℕ) → register_before r reg value ≡ value
 
 -- the event changed no register that lies at the offset
 abbrev pub LeavesOffset : View → ℕ → ℕ → Type 0

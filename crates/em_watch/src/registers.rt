@@ -1,12 +1,14 @@
 //! The registers that one event changed.
-ghost use Rattle.std.specs.Prelude.{◌≡◌, ◌<◌, ◌≤◌, IfSome, IfNone, length};
-ghost use Rattle.em_regs.specs.Table.{offset_of};
-ghost use Rattle.em_watch.specs.Difference.{IsRegisterChange, LeavesOffset, LeavesRegisters};
+ghost use Rattle.std.specs.Prelude.{◌≡◌, ◌-◌, ◌<◌, ◌≤◌, true, IfSome, IfNone, length};
+ghost use Rattle.em_regs.specs.Table.{IsReg, offset_of};
+ghost use Rattle.em_journal.specs.Record.{IsRecordAt};
+ghost use Rattle.em_watch.specs.Difference.{IsRegisterChange, LeavesAlone, LeavesOffset, LeavesRegisters};
 
 use crate::difference::{Difference, difference_of};
 use crate::watch::Watch;
 use em_journal::Machine;
-use em_regs::{Profile, Reg};
+use em_regs::{Kind, Profile, Reg};
+use em_step::Past;
 use std::marker::Model;
 
 /// How many octets a word of the registers' space has.
@@ -83,9 +85,12 @@ fn next_changed(machine: &Machine, back: usize, from: u32) -> Option<RegisterCha
     ensures first { IfSome result (λ change. LeavesRegisters machine.now back from (offset_of change.reg)) }
     ensures none { IfNone result (LeavesRegisters machine.now back from 0x06000) }
 {
+    let Some(past) = machine.record(back - 1) else {
+        unreachable!()
+    };
     let mut next = WORD * from.div_ceil(WORD);
     while let Some(offset) = Reg::next_page_with_registers(next) {
-        if let Some(change) = changed_at(machine, back, offset) {
+        if let Some(change) = changed_at(machine, &past, back, offset) {
             return Some(change);
         }
         next = offset + WORD;
@@ -93,16 +98,38 @@ fn next_changed(machine: &Machine, back: usize, from: u32) -> Option<RegisterCha
     None
 }
 
-/// The register at an offset, if an event changed it.
-fn changed_at(machine: &Machine, back: usize, offset: u32) -> Option<RegisterChange>
+/// The register at an offset, if an event changed it, of which this is the record.
+fn changed_at(
+    machine: &Machine,
+    past: &Past<'_>,
+    back: usize,
+    offset: u32,
+) -> Option<RegisterChange>
     requires some { 0 < back }
     requires there { back ≤ length machine.now.past }
+    requires record { IsRecordAt machine.now (back - 1) past.now }
     ensures change { IfSome result (IsRegisterChange machine.now back) }
     ensures there { IfSome result (λ change. offset_of change.reg ≡ offset) }
     ensures none { IfNone result (LeavesOffset machine.now back offset) }
 {
     // of one that the machine's own profile has not nothing is seen
     let reg = Reg::of_offset_in(Profile::Adapter, offset)?;
+    if is_left(past, reg) {
+        return None;
+    }
     let difference = difference_of(machine, Watch::Register(reg), back)?;
     Some(RegisterChange { reg, difference })
+}
+
+/// Whether a record is known to leave a register as it is, without a look at the register. It has no old value of one
+/// that keeps what software writes if each of two values stays. An event changes few registers, and most are told so.
+#[inline(always)]
+fn is_left(past: &Past<'_>, reg: Reg) -> bool
+    requires { IsReg reg }
+    ensures { result ≡ true → LeavesAlone past.now reg }
+{
+    match reg.row().kind {
+        Kind::Stored => past.register_before(reg, 0) == 0 && past.register_before(reg, 1) == 1,
+        _ => false,
+    }
 }

@@ -27,7 +27,7 @@ use Rattle.em_tx.specs.declared.answer.TxAnswer.TheVariants as tx_answer
 use Rattle.em_tx.specs.declared.refusal.TxRefusal.{TxRefusal}
 use Rattle.em_tx.specs.declared.refusal.TxRefusal.TheVariants as tx_refusal
 use Rattle.em_step.specs.Arrival.{arrival, is_enabled, judgement, lacks_room}
-use Rattle.em_step.specs.Arrival.{after_accept, after_miss}
+use Rattle.em_step.specs.Arrival.{after_accept, after_arrived, after_miss}
 use Rattle.em_step.specs.Engines.{after_tx_answer, rx_stepped, rx_step, sending, tx_stepped, tx_step}
 use Rattle.em_step.specs.Engines.{with_shown}
 use Rattle.em_step.specs.State.{State}
@@ -65,10 +65,11 @@ judged s f (verdict.Accept kind) = admitted s f (lacks_room s f) (Stored, after_
 
 arrived_by : (s : State) (f : List ℕ) (up on : Bool)
     → SameRange s (if not up then (Dropped Down, s) else if not on then (Dropped Disabled, s)
-    else judgement s f (verdict_of s.registers f)).1
+    else judgement (after_arrived s f) f (verdict_of s.registers f)).1
 arrived_by s f false on = record { base = refl; size = refl }
 arrived_by s f true false = record { base = refl; size = refl }
-arrived_by s f true true = judged s f (verdict_of s.registers f)
+arrived_by s f true true =
+    let all = judged (after_arrived s f) f (verdict_of s.registers f) in record { base = all.base; size = all.size }
 
 arrived : (s : State) (f : List ℕ) (long : Bool) (r : Answer × State)
     → (if long then Err Length else Ok (arrival s f)) ≡ Ok r → SameRange s r.1

@@ -12,7 +12,7 @@ use Rattle.em_regs.specs.declared.reg.Reg.{Reg}
 use Rattle.em_regs.specs.declared.reg.Reg.TheVariants.{Ctrl, Eerd}
 use Rattle.em_regs.specs.declared.table.Kind.{Kind}
 use Rattle.em_regs.specs.declared.table.Kind.TheVariants.{Stored, Control, EepromRead, Status, Interrupt, Counter}
-use Rattle.em_regs.specs.declared.table.Kind.TheVariants.{EepromPins, PhyCommand}
+use Rattle.em_regs.specs.declared.table.Kind.TheVariants.{EepromPins, PhyCommand, Uncounted}
 use Rattle.em_regs.specs.RegFile as registers
 use Rattle.em_regs.specs.Storage.{Registers}
 use Rattle.em_regs.specs.declared.profile.Profile.{Profile}
@@ -129,6 +129,7 @@ write_by l s reg v Interrupt other out =
 write_by l s reg v Counter other out = elsewhere_same l s (after_latch_write s reg v) refl refl refl refl refl refl refl
 write_by l s reg v EepromPins other out = elsewhere_same l s (after_pins_write s v) refl refl refl refl refl refl refl
 write_by l s reg v PhyCommand other out = elsewhere_same l s (after_phy_command s v) refl refl refl refl refl refl refl
+write_by l s reg v Uncounted other out = elsewhere_same l s s refl refl refl refl refl refl refl
 
 write_elsewhere : (l : Layout) (s : State) (reg : Reg) (v : ℕ) → IsNoDriverRegister (offset_of reg)
     → IsElsewhere l s (after_write s reg v)

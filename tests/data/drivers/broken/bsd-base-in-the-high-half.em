@@ -1,5 +1,5 @@
 # The ring's base is written to RDBAH.
-# culprit 27, effect 52
+# culprit 27, effect 34
 w D8 FFFFFFFF @ bsd.c:1
 w 0 4000000 @ bsd.c:2
 w D8 FFFFFFFF @ bsd.c:3

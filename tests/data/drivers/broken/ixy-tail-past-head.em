@@ -1,5 +1,5 @@
 # More packets are given than there is room: TDT passes TDH.
-# culprit 56
+# culprit 96, effect 94
 w D8 FFFFFFFF @ ixy.c:1
 w 0 4000000 @ ixy.c:2
 w D8 FFFFFFFF @ ixy.c:3

@@ -1,5 +1,5 @@
 # RDT begins at the count of descriptors, and not at the last index.
-# culprit 29, effect 30
+# culprit 29, effect 39
 w D0 0 @ xv6.c:1
 r 0 @ xv6.c:2
 w 0 4000000 @ xv6.c:3

@@ -8,3 +8,6 @@ returns-in-Line g c = record { writes = rw c.in-Line.is c.write_number.ensures.w
 
 pub returns-in-Differs : goal.returns-in-Differs
 returns-in-Differs g c = record { writes = rw c.in-Differs.is c.write_whole-in-Differs.ensures.writes }
+
+pub returns-in-Warning : goal.returns-in-Warning
+returns-in-Warning g c = record { writes = rw c.in-Warning.is c.write_whole-in-Warning.ensures.writes }

@@ -15,6 +15,6 @@ returns-in_err-write_numbers g c = record {
 
 pub returns : goal.returns
 returns g c = record {
-  writes = Writes-more _ _ _ _ (numbers_behind (codes "back ") c.args.asked (codes " = back ") c.args.taken) (end_text (plain c.args.source)) _
+  writes = Writes-more _ _ _ _ (numbers_behind (codes "back ") c.args.asked (codes " =back ") c.args.taken) (end_text (plain c.args.source)) _
       c.in_ok-write_numbers.ensures.writes c.write_end.ensures.writes ((text_parts (back_words c.args.asked) (back_words c.args.taken) (plain c.args.source)) ∙ sym (append_assoc (back_words c.args.asked) (expected (back_words c.args.taken)) (end_text (plain c.args.source))));
 }

@@ -13,6 +13,6 @@ returns-in_err-write_whole g c = record {
 
 pub returns : goal.returns
 returns g c = record {
-  writes = Writes-more _ _ _ _ (codes " @ ") (named_text (last_of c.args.file.now) c.args.line) _
+  writes = Writes-more _ _ _ _ (codes " @") (named_text (last_of c.args.file.now) c.args.line) _
       c.in_ok-write_whole.ensures.writes (rw c.last_of.ensures at c.write_named.ensures.writes) (refl);
 }

@@ -2,9 +2,13 @@ use Rattle.std.proofs.Common.{◌≡◌, ◌∙◌, ◌*◌, true, false, Some, 
 use Rattle.em_regs.specs.declared.reg.Reg.{Reg}
 use Rattle.em_regs.specs.Table.{reg_of}
 use Rattle.em_names.specs.Names.{IsNamed}
-use Rattle.em_names.proofs.NameLaws.{names_apart, none_named_next}
+use Rattle.em_names.proofs.NameLaws.{names_apart, no_digit_first, none_named_next}
 use Rattle.em_names.proofs.names.parse_in.Goals as goal
 use Rattle.em_names.proofs.names.parse_in.Goals.{in-Some+else-is_named, in_default}
+
+pub returns-then-begins_with_digit-clause-every : goal.returns-then-begins_with_digit-clause-every
+returns-then-begins_with_digit-clause-every c = λ reg h n.
+    absurd (no_digit_first reg c.args.word.now (sym c.begins_with_digit.ensures ∙ c.if-begins_with_digit.true) n)
 
 pub returns-then-is_named-clause-every : goal.returns-then-is_named-clause-every
 returns-then-is_named-clause-every c = λ reg h n.

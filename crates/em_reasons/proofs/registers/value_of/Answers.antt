@@ -4,7 +4,7 @@ use Rattle.std.specs.Option.{option_map}
 use Rattle.em_regs.specs.declared.reg.Reg.{Reg}
 use Rattle.em_regs.specs.declared.table.Kind.{Kind}
 use Rattle.em_regs.specs.declared.table.Kind.TheVariants.{Stored, Control, EepromRead, Status, Interrupt, Counter}
-use Rattle.em_regs.specs.declared.table.Kind.TheVariants.{EepromPins, PhyCommand}
+use Rattle.em_regs.specs.declared.table.Kind.TheVariants.{EepromPins, PhyCommand, Uncounted}
 use Rattle.em_regs.specs.RegFile.{IsStored}
 use Rattle.em_regs.specs.Setup.{value_of}
 use Rattle.em_regs.specs.declared.profile.Profile.TheVariants.{Table}
@@ -26,6 +26,7 @@ by_kind Interrupt s reg is = cc
 by_kind Counter s reg is = cc
 by_kind EepromPins s reg is = cc
 by_kind PhyCommand s reg is = cc
+by_kind Uncounted s reg is = cc
 
 looked : (s : State) (reg : Reg) (offset value : ℕ) (look : Option ℕ) → IsStored reg
     → IsTrue (has_reg Table reg) → offset ≡ offset_of reg

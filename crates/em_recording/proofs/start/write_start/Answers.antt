@@ -21,7 +21,7 @@ returns-in_err-write_value g c =
     let wrote = WroteFront-none (g.W.Write.contents c.args.writer.now) (start_text s) in
     record {
       writes = MatchResult-from_err _ _ _ c.from_residual.ensures.0 (λ _.
-          WroteFront-part (words_text s 1 0x17FF ++ codes "}},\n") wrote refl
+          WroteFront-part (words_text s 1 0x17FF ++ codes "}}}\n") wrote refl
           (rw shown at c.in_err-write_value.ensures.writes));
     }
 
@@ -43,7 +43,7 @@ pub returns-in_err-write_word : goal.returns-in_err-write_word
 returns-in_err-write_word g c =
     let s = c.args.machine.now.present in
     let word = c.loop-word.word in
-    let end = codes "}},\n" in
+    let end = codes "}}}\n" in
     let others = words_text s (word + 1) (0x1800 - (word + 1)) in
     let left : 0x1800 - word ≡ suc (0x1800 - (word + 1)) = omega (arith, c.loop-word-test.true) in
     let rest = ap (λ l. l ++ end) (words_text-more s word left) ∙ append_assoc (word_text s word) others end in
@@ -56,7 +56,7 @@ pub loop-word-preserved : goal.loop-word-preserved
 loop-word-preserved g c =
     let s = c.args.machine.now.present in
     let word = c.loop-word.word in
-    let end = codes "}},\n" in
+    let end = codes "}}}\n" in
     let others = words_text s (word + 1) (0x1800 - (word + 1)) in
     let left : 0x1800 - word ≡ suc (0x1800 - (word + 1)) = omega (arith, c.loop-word-test.true) in
     let rest = ap (λ l. l ++ end) (words_text-more s word left) ∙ append_assoc (word_text s word) others end in
@@ -69,7 +69,7 @@ pub returns : goal.returns
 returns g c =
     let s = c.args.machine.now.present in
     let word = c.loop-word.word in
-    let end = codes "}},\n" in
+    let end = codes "}}}\n" in
     let wrote = c.loop-word.invariant.wrote in
     let none : 0x1800 - word ≡ 0 = omega (arith, c.loop-word-test.false) in
     record {

@@ -11,5 +11,5 @@ invariant-loop-word g l =
     record {
       within : l.word ≤ 0x1800;
       wrote : WroteFront (contents l.fn.writer) (contents l.writer)
-          (words_text l.machine.present l.word (0x1800 - l.word) ++ codes "}},\n") (start_text l.machine.present);
+          (words_text l.machine.present l.word (0x1800 - l.word) ++ codes "}}}\n") (start_text l.machine.present);
     }

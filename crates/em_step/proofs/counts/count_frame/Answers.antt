@@ -1,8 +1,7 @@
-use Rattle.em_step.proofs.ReversalLaws.{nothing_done}
 use Rattle.em_step.proofs.counts.count_frame.Goals as goal
 
 pub returns-clause-reverses : goal.returns-clause-reverses
 returns-clause-reverses c =
     c.count_buffer.ensures.reverses _
     (c.count_kind.ensures.reverses _
-    (c.count_sizes.ensures.reverses _ (nothing_done c.none-undo.ensures)))
+    (c.count_sizes.ensures.reverses _ c.count_arrived-undo.ensures.reverses))

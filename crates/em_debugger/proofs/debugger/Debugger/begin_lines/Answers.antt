@@ -1,6 +1,6 @@
-use Rattle.std.proofs.Common.{◌++◌, refl}
+use Rattle.std.proofs.Common.{refl}
 use Rattle.em_debugger.specs.Files.{BeginsLines, loaded_text}
-use Rattle.em_debugger.specs.Played.{ended_text, played_text}
+use Rattle.em_debugger.specs.Played.{ran_text}
 use Rattle.em_debugger.proofs.TextLaws.{OnOk-written}
 use Rattle.em_debugger.proofs.debugger.Debugger.begin_lines.Goals as goal
 
@@ -18,6 +18,6 @@ returns-else-step g c =
     let new = c.run_all.new.self in
     let ran = c.run_all.ensures in
     record {
-      ok = OnOk-written _ _ _ (played_text new ran.0 ++ ended_text ran.1) (BeginsLines c.args.step c.args.count d new) ran.3
+      ok = OnOk-written _ _ _ (ran_text c.args.self.now new ran.0 ran.1) (BeginsLines c.args.step c.args.count d new) ran.3
           (rw c.if-step.false (record { played = ran.0; fault = ran.1; plays = ran.2; told = refl }));
     }

@@ -1,6 +1,6 @@
 use Rattle.std.proofs.Common.{refl, ap, rules, sym, ◌∙◌}
 use Rattle.em_regs.specs.declared.table.Row.{Row}
-use Rattle.em_regs.specs.declared.table.Kind.TheVariants.{EepromPins, PhyCommand, Status}
+use Rattle.em_regs.specs.declared.table.Kind.TheVariants.{EepromPins, PhyCommand, Status, Uncounted}
 use Rattle.em_step.specs.Cells.{Cells, shows}
 use Rattle.em_step.proofs.Registers.{reads_by}
 use Rattle.em_step.proofs.ReversalLaws.{plain_of}
@@ -13,6 +13,18 @@ returns-in-Status c =
       plain = plain_of c.of_effect.ensures refl (λ o. tt);
       performed = λ o. record {
         ok = reads_by Status (shows c.args.self.now) c.args.reg c.requires.0 c.requires.1 kind refl c.status.ensures;
+        cost = search rules;
+        reverses = search rules;
+      };
+    }
+
+pub returns-in-Uncounted : goal.returns-in-Uncounted
+returns-in-Uncounted c =
+    let kind = ap (λ (row : Row). row.kind) (sym c.row.ensures) ∙ c.in-Uncounted.is in
+    record {
+      plain = plain_of c.of_effect-in-Uncounted.ensures refl (λ o. tt);
+      performed = λ o. record {
+        ok = reads_by Uncounted (shows c.args.self.now) c.args.reg c.requires.0 c.requires.1 kind refl refl;
         cost = search rules;
         reverses = search rules;
       };

@@ -1,6 +1,6 @@
 use Rattle.std.proofs.Common.{refl, sym, ap, rules, subst, IsTrue, ◌∙◌}
 use Rattle.em_regs.specs.declared.table.Row.{Row}
-use Rattle.em_regs.specs.declared.table.Kind.TheVariants.{Control, EepromRead, EepromPins, PhyCommand, Status}
+use Rattle.em_regs.specs.declared.table.Kind.TheVariants.{Control, EepromRead, EepromPins, PhyCommand, Status, Uncounted}
 use Rattle.em_step.specs.Access.{is_reset_by}
 use Rattle.em_step.specs.Cost.{cost_of}
 use Rattle.em_step.specs.Undo.{undo_of}
@@ -57,6 +57,20 @@ returns-in-Status-clause-ok c =
         ok = writes_by Status s c.args.reg c.args.value c.requires.0 c.requires.1 kind refl;
         cost = ap (λ r. cost_of (undo_of r o)) c.of_effect-in-Status.ensures
             ∙ sym (costs_by Status s c.args.reg c.args.value c.requires.0 kind);
+        reverses = search rules;
+      };
+    }
+
+pub returns-in-Uncounted-clause-ok : goal.returns-in-Uncounted-clause-ok
+returns-in-Uncounted-clause-ok c =
+    let s = shows c.args.self.now in
+    let kind = ap (λ (row : Row). row.kind) (sym c.row.ensures) ∙ c.in-Uncounted.is in
+    record {
+      plain = plain_of c.of_effect-in-Uncounted.ensures refl (λ o. tt);
+      performed = λ o. record {
+        ok = writes_by Uncounted s c.args.reg c.args.value c.requires.0 c.requires.1 kind refl;
+        cost = ap (λ r. cost_of (undo_of r o)) c.of_effect-in-Uncounted.ensures
+            ∙ sym (costs_by Uncounted s c.args.reg c.args.value c.requires.0 kind);
         reverses = search rules;
       };
     }

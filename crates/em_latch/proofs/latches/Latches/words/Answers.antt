@@ -1,0 +1,10 @@
+use Rattle.std.proofs.Common.{◌∙◌, sym}
+use Rattle.em_regs.proofs.Words.{words_are}
+use Rattle.em_latch.specs.Storage.{offsets}
+use Rattle.em_latch.proofs.PlaceLaws.{distinct-offsets, length-offsets}
+use Rattle.em_latch.proofs.latches.Latches.words.Goals as goal
+
+pub returns-clause-words : goal.returns-clause-words
+returns-clause-words c =
+    words_are offsets c.self.inside.words c.args.self.now distinct-offsets (c.self.told ∙ sym length-offsets)
+    c.self.view_is

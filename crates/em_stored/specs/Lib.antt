@@ -1,0 +1,4 @@
+pub mod Form
+pub mod Machines
+pub mod Stored
+pub mod Tests
