@@ -119,7 +119,25 @@ class Firefox:
                 return answer["result"]
 
     def open(self, file) -> None:
-        self.call("browsingContext.navigate", context=self.context, url=f"file://{file}", wait="complete")
+        """Opens a file, and waits until it is the window's document, whole.
+
+        Firefox says that a navigation is complete also where the page before it has just changed its own fragment. So the
+        old document is marked, and the new one has no mark."""
+        url = f"file://{file}"
+        was = self.run("window.isLeft = true; return location.href")
+        stays = "#" in url and was.partition("#")[0] == url.partition("#")[0]
+        self.call("browsingContext.navigate", context=self.context, url=url, wait="complete")
+        for _ in range(10 * SECONDS):
+            if self.has_come(stays):
+                return
+            time.sleep(0.1)
+        raise OSError(f"{url} does not come to its end")
+
+    def has_come(self, stays: bool) -> bool:
+        try:
+            return self.run("return document.readyState === 'complete' && (arguments[0] || !window.isLeft)", stays)
+        except RuntimeError:  # (the document went while it was asked)
+            return False
 
     def run(self, script: str, *words):
         """Runs a script in the page, as a function of these words: what it returns."""

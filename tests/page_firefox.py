@@ -28,6 +28,8 @@ def check_firefox(tally: Tally, room: Path) -> None:
         for part in (questions, bad_links, history, edits, machines, without):
             part(tally, browser, room)
         tally.check("Firefox, the console", browser.told())
+    except RuntimeError as fault:
+        tally.check("Firefox", [f"a script in the page failed: {fault}"])
     except OSError as fault:
         # (a host that has no memory or no time for it ends it; a page that it can't show fails a check)
         print(f"Firefox does not answer any more ({fault}): what follows was not tried in it")
