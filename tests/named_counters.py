@@ -109,7 +109,8 @@ class Room:
         self.tools, self.temporary = self.top / "commands", self.top / "temporary"
         for name in (self.tools, self.temporary, self.top / "tools"):
             name.mkdir()
-        for name in ("em_debug", "em_page", "em_record", "tools/addr2line.bash"):
+        tools = (f"tools/{name}.bash" for name in ("addr2line", "say_name", "unpack"))
+        for name in ("em_debug", "em_page", "em_record", *tools):
             shutil.copy(TOP / name, self.top / name)
         shutil.copytree(TOP / "page", self.top / "page")
         chosen = f'[ $me = em_debug ] && program="{program}" || program="{player("em_record")}"'

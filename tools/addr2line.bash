@@ -4,9 +4,6 @@
 # to yes where that takes a script from standard input whatever the other words are. Where it has a folder of its own in
 # `room`, which it removes at its end, the files that are made lie there.
 #
-#   bash tools/addr2line.bash PLAYER PATH NAME PROGRAM WORD ..   runs a program whose script lies at PATH; what PLAYER
-#                                                                says of that on standard error is said of NAME
-#
 # It takes bash, coreutils, awk and addr2line, and /proc.
 
 # An awk program. docs/language.md says what the source of a line is. It reads, each told by `part`:
@@ -163,7 +160,7 @@ put_names() {
   rm -rf -- "$desk"
   [ "${room-}" ] || trap - EXIT
   words[at]=/dev/fd/9
-  through+=("$BASH" "$top/tools/addr2line.bash" "$player" /dev/fd/9 "$script")
+  through+=("$BASH" "$top/tools/say_name.bash" "$player" /dev/fd/9 "$script")
 }
 
 # Asks for all counters of the script at once: `keys` has those that were asked for, `answers` what was answered.
@@ -189,19 +186,3 @@ name_counters() {
   LC_ALL=C awk -v ends="$ends" "$NAMER" part=keys "$desk/keys" part=answers "$desk/answers" part=named "$desk/script" \
     >"$desk/named" 2>/dev/null
 }
-
-# Runs a program, and hands on what it says, with the name that the user gave in the place of its script's path.
-say_name() {
-  local player=$1 path=$2 name=$3 line status
-  shift 3
-  {
-    "$@" 2>&1 >&3 3>&- | while IFS= read -r line || [ "$line" ]; do
-      [[ $line != "$player: $path: "* ]] || line="$player: $name: ${line#"$player: $path: "}"
-      printf '%s\n' "$line" >&2
-    done 3>&-
-    status=${PIPESTATUS[0]}
-  } 3>&1
-  exit "$status"
-}
-
-[ "${BASH_SOURCE[0]}" != "$0" ] || say_name "$@"
