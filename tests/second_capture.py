@@ -14,7 +14,10 @@ SECTION = b"\x0a\x0d\x0d\x0a"
 ORDERS = {b"\x4d\x3c\x2b\x1a": "<", b"\x1a\x2b\x3c\x4d": ">"}
 DESCRIPTION, SIMPLE, ENHANCED = 1, 3, 6
 LEAST = {DESCRIPTION: 20, SIMPLE: 16, ENHANCED: 32}
-RESOLUTION, OFFSET = 9, 14
+RESOLUTION, CHECKS, OFFSET = 9, 13, 14
+# the octets of the frame check sequence behind each frame: by the whole field `network`, and by the option if_fcslen
+NETWORKS = {1: 0, 1 | 1 << 26: 0, 1 | 1 << 26 | 2 << 28: 4}
+IN_OPTION = {b"\0": 0, b"\x04": 4, b"\x20": 4}
 UNLIMITED = 1 << 32
 
 
@@ -51,8 +54,9 @@ class Reader:
         major, snap, network = struct.unpack_from(order + "H10xII", self.file, 4)
         if major != 2:
             raise Fault(VERSION)
-        if network != 1:
+        if network not in NETWORKS:
             raise Fault(LINK)
+        checks = NETWORKS[network]
         self.at, snap = 24, snap or UNLIMITED
         while self.at < len(self.file):
             if len(self.file) - self.at < 16:
@@ -63,7 +67,7 @@ class Reader:
             octets = self.file[self.at + 16 : self.at + 16 + captured]
             if len(octets) < captured:
                 raise Fault(CUT)
-            self.packets.append((original, octets, seconds * 10**9 + part * unit))
+            self.packets.append((*unchecked(checks, original, octets), seconds * 10**9 + part * unit))
             self.at += 16 + captured
 
     # ---- pcapng
@@ -97,16 +101,27 @@ class Reader:
             self.at += size
 
 
-def described(order: str, block: bytes) -> tuple[int, int | None]:
-    """The snap length and the clock of an interface: how many nanoseconds it counts as one, if that is known."""
+def unchecked(checks: int, original: int, octets: bytes) -> tuple[int, bytes]:
+    """A frame's length and octets without its frame check sequence, which is the last of so many as the frame had."""
+    if not checks:
+        return original, octets
+    frame = max(len(octets), original) - checks
+    return max(original - checks, 0), octets[: max(frame, 0)]
+
+
+def described(order: str, block: bytes) -> tuple[int, int, int | None]:
+    """The snap length of an interface, its frame check sequence, and its clock: how many nanoseconds it counts as one, if
+    that is known."""
     link, snap = struct.unpack_from(order + "H2xI", block, 8)
     if link != 1:
         raise Fault(LINK)
     said = options(order, block[16:-4])
-    if OFFSET in said:
-        return snap or UNLIMITED, None
+    checks = IN_OPTION.get(said.get(CHECKS, b"\0"))
+    if checks is None:
+        raise Fault(LINK)
     power = said.get(RESOLUTION, b"\x06")
-    return snap or UNLIMITED, 10 ** (9 - power[0]) if len(power) == 1 and power[0] <= 9 else None
+    is_known = OFFSET not in said and len(power) == 1 and power[0] <= 9
+    return snap or UNLIMITED, checks, 10 ** (9 - power[0]) if is_known else None
 
 
 def options(order: str, octets: bytes) -> dict[int, bytes]:
@@ -130,7 +145,7 @@ def packet(order: str, block: bytes, kind: int, interfaces: list) -> tuple[int, 
         octets = block[12:-4]
     if which >= len(interfaces):
         raise Fault(INTERFACE)
-    snap, clock = interfaces[which]
+    snap, checks, clock = interfaces[which]
     if kind == SIMPLE:
         captured = min(original, snap)
     if captured > snap or captured > len(octets):
@@ -138,7 +153,7 @@ def packet(order: str, block: bytes, kind: int, interfaces: list) -> tuple[int, 
     time = None
     if kind == ENHANCED and clock is not None and ((high << 32) + low) * clock < 1 << 64:
         time = ((high << 32) + low) * clock
-    return original, octets[:captured], time
+    return *unchecked(checks, original, octets[:captured]), time
 
 
 def told(file: bytes) -> str:

@@ -1,5 +1,5 @@
 -- A capture that is written, and read again.
-use Rattle.std.proofs.Common.{◌≡◌, ℕ, ◌+◌, ◌*◌, ◌/◌, ◌%◌, ◌<◌, ◌≤◌, List, [], ◌∷◌, ◌++◌, length, take, drop, map, All}
+use Rattle.std.proofs.Common.{◌≡◌, ℕ, ◌+◌, ◌-◌, ◌*◌, ◌/◌, ◌%◌, ◌<◌, ◌≤◌, List, [], ◌∷◌, ◌++◌, length, take, drop, map, All}
 use Rattle.std.proofs.Common.{false, eqb, ltb, Some, refl, sym, ap, ◌∙◌, arith, append-nil, length-append}
 use Rattle.std.proofs.Common.{get_or, append_assoc, take-append-drop}
 use Rattle.std.proofs.lemmas.List.{drop_more, take_all}
@@ -63,7 +63,7 @@ all_there front frames i le =
 
 -- what the file header says
 abbrev pub written : Header
-written = record { order = Little; unit = Nanoseconds; snap = 65535 }
+written = record { order = Little; unit = Nanoseconds; snap = 65535; fcs = 0 }
 
 abbrev four : ℕ → ℕ → ℕ → ℕ → List ℕ → List ℕ
 four a b c d rest =
@@ -111,7 +111,10 @@ by_fields record' frame fits long seconds nanoseconds included original =
     let snapped : ltb 65535 (length frame.octets) ≡ false = le-ltb 65535 (length frame.octets) fits.octets in
     let whole : ltb (length record') (16 + length frame.octets) ≡ false =
     le-ltb (length record') (16 + length frame.octets) long in
-    rw (seconds, nanoseconds, included, original, some, head, snapped, whole, time) refl
+    let captured : length frame.octets - (0 - (length frame.octets - length frame.octets)) ≡ length frame.octets =
+    omega arith in
+    let same : length frame.octets - 0 ≡ length frame.octets = omega arith in
+    rw (seconds, nanoseconds, included, original, some, head, snapped, whole, time, captured, same) refl
 
 record_read : (frame : Timed) (rest : List ℕ) → Fits frame
     → record_step written (record_text frame ++ rest) ≡ Gives (found_of frame)

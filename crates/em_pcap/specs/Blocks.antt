@@ -14,7 +14,8 @@ use Rattle.em_pcap.specs.declared.form.Step.{Step}
 use Rattle.em_pcap.specs.declared.form.Step.TheVariants.{Ends, Stops, Gives, Opens, Adds, Skips}
 use Rattle.em_pcap.specs.Fields.{u16, u32}
 use Rattle.em_pcap.specs.Classic.{is_beyond}
-use Rattle.em_pcap.specs.Options.{tick_of}
+use Rattle.em_pcap.specs.Fcs.{without_fcs}
+use Rattle.em_pcap.specs.Options.{tick_of, fcs_of}
 
 -- ---- any block: block_type, block_total_length, a body, and block_total_length again
 
@@ -92,15 +93,24 @@ link_type order block = u16 order 8 block
 abbrev pub snap_len : Order → List ℕ → ℕ
 snap_len order block = u32 order 12 block
 
-abbrev pub interface_of : Order → List ℕ → Interface
-interface_of order block = record {
+abbrev pub options : Order → List ℕ → List ℕ
+options order block = slice_range block 16 (block_total_length order block - 4)
+
+abbrev pub interface_of : Order → List ℕ → ℕ → Interface
+interface_of order block fcs = record {
   snap = snap_len order block;
-  tick = tick_of order (slice_range block 16 (block_total_length order block - 4));
+  fcs = fcs;
+  tick = tick_of order (options order block);
 }
+
+-- an interface of whose frame check sequences it is known how many octets they have
+abbrev pub described : Order → List ℕ → Option ℕ → Step
+described order block None = Stops LinkType
+described order block (Some fcs) = Adds (block_total_length order block) (interface_of order block fcs)
 
 abbrev pub interface_step : Order → List ℕ → Step
 interface_step order block =
-    if link_type order block == 1 then Adds (block_total_length order block) (interface_of order block)
+    if link_type order block == 1 then described order block (fcs_of order (options order block))
     else Stops LinkType
 
 -- ---- packets
@@ -110,11 +120,12 @@ abbrev pub of_interface : Option Interface → (Interface → Step) → Step
 of_interface None step = Stops NoInterface
 of_interface (Some interface) step = step interface
 
--- a packet, of which a snap length and so much room in its block allow so many octets
-abbrev pub packet_step : ℕ → ℕ → Found → Step
-packet_step snap room found =
+-- a packet with a frame check sequence of so many octets, of which a snap length and so much room in its block allow so
+-- many octets
+abbrev pub packet_step : ℕ → ℕ → ℕ → Found → Step
+packet_step snap fcs room found =
     if is_beyond snap found.captured || nat_lt room found.captured then Stops CapturedLength
-    else Gives found
+    else Gives (without_fcs fcs found)
 
 -- so many ticks of a clock in nanoseconds, where that is known and fits 64 bits
 abbrev pub time_of : Option ℕ → ℕ → Option ℕ
@@ -148,10 +159,13 @@ enhanced_of order block interface = record {
   time = time_of interface.tick (timestamp_high order block * 0x100000000 + timestamp_low order block);
 }
 
+abbrev pub enhanced_in : Order → List ℕ → Interface → Step
+enhanced_in order block interface =
+    packet_step interface.snap interface.fcs (block_total_length order block - 32) (enhanced_of order block interface)
+
 abbrev pub enhanced_step : Order → List Interface → List ℕ → Step
 enhanced_step order interfaces block =
-    of_interface (slice_get interfaces (interface_id order block))
-    (λ interface. packet_step interface.snap (block_total_length order block - 32) (enhanced_of order block interface))
+    of_interface (slice_get interfaces (interface_id order block)) (enhanced_in order block)
 
 -- a simple packet: its original length, and the packet, of the first interface and as long as its snap length allows
 
@@ -174,7 +188,8 @@ simple_of order block interface = record {
 abbrev pub simple_step : Order → List Interface → List ℕ → Step
 simple_step order interfaces block =
     of_interface (slice_get interfaces 0)
-    (λ interface. packet_step interface.snap (block_total_length order block - 16) (simple_of order block interface))
+    (λ interface. packet_step interface.snap interface.fcs (block_total_length order block - 16)
+    (simple_of order block interface))
 
 -- ---- what a block is
 

@@ -10,6 +10,7 @@ use Rattle.em_pcap.specs.declared.form.Form.TheVariants.{Classic}
 use Rattle.em_pcap.specs.declared.form.Step.{Step}
 use Rattle.em_pcap.specs.declared.form.Step.TheVariants.{Ends, Stops, Gives, Opens}
 use Rattle.em_pcap.specs.Fields.{u16, u32}
+use Rattle.em_pcap.specs.Fcs.{fcs_in_network, without_fcs}
 
 -- ---- the file header: 24 octets
 
@@ -43,14 +44,18 @@ magic_of file =
     else if magic_number Big file == 0xA1B23C4D then Some (Big, Nanoseconds)
     else None
 
+-- what the header says of the records, where it says that they are of Ethernet, and of its frame check sequences
+abbrev pub opens : Order → TimeUnit → ℕ → Option ℕ → Step
+opens order unit snap None = Stops LinkType
+opens order unit snap (Some fcs) =
+    Opens 24 (Classic (record { order = order; unit = unit; snap = snap; fcs = fcs }))
+
 -- version 2.x, Ethernet
 abbrev pub header_step : Order → TimeUnit → List ℕ → Step
 header_step order unit file =
     if nat_lt (length file) 24 then Stops CutShort
-    else if version_major order file == 2 then
-    (if network order file == 1
-    then Opens 24 (Classic (record { order = order; unit = unit; snap = snaplen order file }))
-    else Stops LinkType)
+    else if version_major order file == 2
+    then opens order unit (snaplen order file) (fcs_in_network (network order file))
     else Stops Version
 
 -- ---- a record: a header of 16 octets, and as many octets of a packet as incl_len says
@@ -84,10 +89,10 @@ record_step header octets =
     else if nat_lt (length octets) 16 then Stops CutShort
     else if is_beyond header.snap captured then Stops CapturedLength
     else if nat_lt (length octets) (16 + captured) then Stops CutShort
-    else Gives (record {
+    else Gives (without_fcs header.fcs (record {
       len = 16 + captured;
       at = 16;
       captured = captured;
       original = orig_len order octets;
       time = Some (ts_sec order octets * 1000000000 + ts_fraction order octets * nanoseconds_of header.unit);
-    })
+    }))

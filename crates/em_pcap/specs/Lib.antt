@@ -1,6 +1,7 @@
 pub mod Fields
 pub mod Frame
 pub mod Step
+pub mod Fcs
 pub mod Classic
 pub mod Options
 pub mod Blocks

@@ -3,6 +3,7 @@ use Rattle.std.specs.Prelude.{ℕ, zero, suc, ◌+◌, ◌*◌, ◌/◌, ◌==�
 use Rattle.std.specs.Prelude.{List, [], ◌∷◌, length, take, drop, Option, Some, None}
 use Rattle.em_pcap.specs.declared.order.Order.{Order}
 use Rattle.em_pcap.specs.Fields.{u16}
+use Rattle.em_pcap.specs.Fcs.{if_fcslen, fcs_in}
 
 abbrev pub option_code : Order → List ℕ → ℕ
 option_code order octets = u16 order 0 octets
@@ -60,3 +61,12 @@ unfoldable pub tick_of : Order → List ℕ → Option ℕ
 tick_of order options =
     if is_some (option_value order if_tsoffset 0 options) then None
     else tick_or_usual (option_value order if_tsresol 0 options)
+
+-- without if_fcslen no frame check sequence is there
+abbrev pub fcs_or_none : Option (List ℕ) → Option ℕ
+fcs_or_none None = Some 0
+fcs_or_none (Some value) = fcs_in value
+
+-- how many octets of a frame check sequence follow each frame, by an interface's options
+unfoldable pub fcs_of : Order → List ℕ → Option ℕ
+fcs_of order options = fcs_or_none (option_value order if_fcslen 0 options)

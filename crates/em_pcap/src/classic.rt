@@ -4,6 +4,7 @@ ghost use Rattle.em_pcap.specs.Classic.{magic_of, header_step, record_step, is_b
 ghost use Rattle.em_pcap.specs.Step.{IsWithin};
 
 use crate::fault::FaultKind;
+use crate::fcs::{fcs_in_network, without_fcs};
 use crate::form::{Form, Found, Header, Step, Unit};
 use crate::order::Order;
 
@@ -40,9 +41,6 @@ const ORIG_LEN: usize = 12;
 /// The major version that is known.
 const VERSION: u16 = 2;
 
-/// The link type of Ethernet.
-pub(crate) const ETHERNET: u16 = 1;
-
 /// The nanoseconds of a second.
 pub(crate) const SECOND: u64 = 1_000_000_000;
 
@@ -78,10 +76,16 @@ pub(crate) fn header_step(order: Order, unit: Unit, octets: &[u8]) -> Step
         return Step::Stops(FaultKind::Version);
     }
     let snap = order.u32_at(octets, SNAPLEN);
-    if order.u32_at(octets, NETWORK) != u32::from(ETHERNET) {
+    let Some(fcs) = fcs_in_network(order.u32_at(octets, NETWORK)) else {
         return Step::Stops(FaultKind::LinkType);
-    }
-    Step::Opens(FILE_HEADER, Form::Classic(Header { order, unit, snap }))
+    };
+    let header = Header {
+        order,
+        unit,
+        snap,
+        fcs,
+    };
+    Step::Opens(FILE_HEADER, Form::Classic(header))
 }
 
 /// A record of a classic file, or its end.
@@ -96,7 +100,12 @@ pub(crate) fn record_step(header: Header, octets: &[u8]) -> Step
     if octets.len() < RECORD_HEADER {
         return Step::Stops(FaultKind::CutShort);
     }
-    let Header { order, unit, snap } = header;
+    let Header {
+        order,
+        unit,
+        snap,
+        fcs,
+    } = header;
     let seconds = u64::from(order.u32_at(octets, TS_SEC));
     let within = u64::from(order.u32_at(octets, TS_FRACTION));
     let included = order.u32_at(octets, INCL_LEN);
@@ -108,13 +117,14 @@ pub(crate) fn record_step(header: Header, octets: &[u8]) -> Step
     if octets.len() < RECORD_HEADER + captured {
         return Step::Stops(FaultKind::CutShort);
     }
-    Step::Gives(Found {
+    let found = Found {
         len: RECORD_HEADER + captured,
         at: RECORD_HEADER,
         captured,
         original,
         time: Some(seconds * SECOND + within * unit.nanoseconds()),
-    })
+    };
+    Step::Gives(without_fcs(fcs, found))
 }
 
 /// Whether so many captured octets are more than a snap length allows, where 0 allows any number.

@@ -25,6 +25,8 @@ pub(crate) struct Header {
     pub(crate) unit: Unit,
     /// The most octets of a packet; 0 for any number.
     pub(crate) snap: u32,
+    /// How many octets of a frame check sequence follow each frame.
+    pub(crate) fcs: u32,
 }
 
 /// What is counted within a second.
@@ -53,6 +55,8 @@ impl Unit {
 pub(crate) struct Interface {
     /// The most octets of a packet; 0 for any number.
     pub(crate) snap: u32,
+    /// How many octets of a frame check sequence follow each frame.
+    pub(crate) fcs: u32,
     /// How many nanoseconds its clock counts as one; none where that is not known.
     pub(crate) tick: Option<u64>,
 }

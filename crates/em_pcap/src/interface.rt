@@ -1,14 +1,17 @@
 //! Interface descriptions of pcapng files, and their options.
 ghost use Rattle.std.specs.Prelude.{◌≡◌, ◌≤◌, length, option_map};
 ghost use Rattle.em_pcap.specs.Step.{IsWithin};
-ghost use Rattle.em_pcap.specs.Options.{option_value, padded, tick_in, tick_or_usual, tick_of};
+ghost use Rattle.em_pcap.specs.Options.{option_value, padded, tick_in, tick_or_usual, tick_of, fcs_or_none, fcs_of};
 ghost use Rattle.em_pcap.specs.Blocks.{block_total_length, interface_step};
 
 use crate::block::LENGTH_AGAIN;
-use crate::classic::ETHERNET;
 use crate::fault::FaultKind;
+use crate::fcs::fcs_in;
 use crate::form::{Interface, Step};
 use crate::order::Order;
+
+/// The link type of Ethernet.
+const ETHERNET: u16 = 1;
 
 /// Where the fields of a description lie that are read.
 const LINK_TYPE: usize = 8;
@@ -33,6 +36,9 @@ const END_OF_OPTIONS: u16 = 0;
 
 /// The code of the option that says how fine a clock is.
 const RESOLUTION: u16 = 9;
+
+/// The code of the option that says which frame check sequence the frames have.
+const FCS_LENGTH: u16 = 13;
 
 /// The code of the option that says how many seconds are to be added.
 const OFFSET: u16 = 14;
@@ -66,8 +72,30 @@ pub(crate) fn interface_step(order: Order, block: &[u8], len: usize) -> Step
         return Step::Stops(FaultKind::LinkType);
     }
     let snap = order.u32_at(block, SNAP_LEN);
-    let tick = tick_of(order, &block[OPTIONS..len - LENGTH_AGAIN]);
-    Step::Adds(len, Interface { snap, tick })
+    let options = &block[OPTIONS..len - LENGTH_AGAIN];
+    let Some(fcs) = fcs_of(order, options) else {
+        return Step::Stops(FaultKind::LinkType);
+    };
+    let tick = tick_of(order, options);
+    Step::Adds(len, Interface { snap, fcs, tick })
+}
+
+/// How many octets of a frame check sequence follow each frame of an interface, by its options.
+#[tactic(auto, unfolding(crate::specs::Options::fcs_of))]
+fn fcs_of(order: Order, options: &[u8]) -> Option<u32>
+    ensures { result ≡ fcs_of order options.now }
+{
+    fcs_or_none(option_value(order, FCS_LENGTH, options))
+}
+
+/// The same by an option's value, or without one.
+fn fcs_or_none(said: Option<&[u8]>) -> Option<u32>
+    ensures { result ≡ fcs_or_none (option_map (λ value. value.now) said.entry) }
+{
+    match said {
+        None => Some(0),
+        Some(value) => fcs_in(value),
+    }
 }
 
 /// How many nanoseconds an interface's clock counts as one, by its options.

@@ -11,6 +11,7 @@ mod block;
 mod capture;
 mod classic;
 mod fault;
+mod fcs;
 mod form;
 mod interface;
 mod laws;

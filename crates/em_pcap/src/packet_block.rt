@@ -1,10 +1,12 @@
 //! Packet blocks of pcapng files.
 ghost use Rattle.std.specs.Prelude.{◌≡◌, ◌+◌, ◌≤◌, length};
 ghost use Rattle.em_pcap.specs.Step.{IsWithin};
-ghost use Rattle.em_pcap.specs.Blocks.{block_total_length, enhanced_step, simple_step, packet_step, snapped, time_of};
+ghost use Rattle.em_pcap.specs.Blocks.{block_total_length, enhanced_in, enhanced_step, simple_step};
+ghost use Rattle.em_pcap.specs.Blocks.{packet_step, snapped, time_of};
 
 use crate::block::LENGTH_AGAIN;
 use crate::fault::FaultKind;
+use crate::fcs::without_fcs;
 use crate::form::{Found, Interface, Step};
 use crate::order::Order;
 
@@ -44,13 +46,25 @@ pub(crate) fn enhanced_step(
     ensures within { IsWithin (length block.now) result }
 {
     let id = order.u32_at(block, INTERFACE_ID);
+    match interfaces.get(id as usize).copied() {
+        Some(interface) => enhanced_in(order, interface, block, len),
+        None => Step::Stops(FaultKind::NoInterface),
+    }
+}
+
+/// The same of this interface.
+#[inline(always)]
+fn enhanced_in(order: Order, interface: Interface, block: &[u8], len: usize) -> Step
+    requires len { len ≡ block_total_length order block.now }
+    requires fields { 32 ≤ len }
+    requires whole { len ≤ length block.now }
+    ensures step { result ≡ enhanced_in order block.now interface }
+    ensures within { IsWithin (length block.now) result }
+{
     let high = u64::from(order.u32_at(block, TIMESTAMP_HIGH));
     let low = u64::from(order.u32_at(block, TIMESTAMP_LOW));
     let captured = order.u32_at(block, CAPTURED_PACKET_LENGTH);
     let original = order.u32_at(block, ORIGINAL_PACKET_LENGTH);
-    let Some(interface) = interfaces.get(id as usize).copied() else {
-        return Step::Stops(FaultKind::NoInterface);
-    };
     let time = time_of(interface.tick, high * UPPER_HALF + low);
     let room = len - ENHANCED_AT - LENGTH_AGAIN;
     let found = Found {
@@ -60,7 +74,7 @@ pub(crate) fn enhanced_step(
         original,
         time,
     };
-    packet_step(interface.snap, room, found)
+    packet_step(interface.snap, interface.fcs, room, found)
 }
 
 /// A simple packet block of so many octets.
@@ -83,18 +97,19 @@ pub(crate) fn simple_step(order: Order, interfaces: &[Interface], block: &[u8], 
         original,
         time: None,
     };
-    packet_step(interface.snap, room, found)
+    packet_step(interface.snap, interface.fcs, room, found)
 }
 
-/// A packet of which a snap length and so much room in its block allow so many octets.
+/// A packet with a frame check sequence of so many octets, of which a snap length and so much room in its block allow so
+/// many octets.
 #[inline(always)]
-fn packet_step(snap: u32, room: usize, found: Found) -> Step
-    ensures { result ≡ packet_step snap room found }
+fn packet_step(snap: u32, fcs: u32, room: usize, found: Found) -> Step
+    ensures { result ≡ packet_step snap fcs room found }
 {
     if (snap != 0 && (snap as usize) < found.captured) || room < found.captured {
         return Step::Stops(FaultKind::CapturedLength);
     }
-    Step::Gives(found)
+    Step::Gives(without_fcs(fcs, found))
 }
 
 /// So many octets, or as many as a snap length allows.
