@@ -12,8 +12,11 @@ HEX = re.compile(rb"0[xX]([0-9a-fA-F]{1,16})")
 DECIMAL = re.compile(rb"[0-9]{1,7}")
 EVENT = re.compile(rb"(?:.*:)?memory_region_ops_(read|write)", re.DOTALL)
 PRINTED = re.compile(rb"(?:.*[^a-zA-Z])?(read|write)", re.DOTALL | re.IGNORECASE)
+STORED = re.compile(rb"(?:.*[^a-zA-Z])?mem", re.DOTALL | re.IGNORECASE)
+OCTETS = re.compile(rb"(?:[0-9a-fA-F]{2})+")
 NOTHING, ELSEWHERE, FAULT = "nothing", "elsewhere", "fault"
-MOST_KEPT = 4_096
+# how many octets of a line are read, how many a comment has, and how many octets a line of a script writes to memory
+MOST_KEPT, MOST_SHOWN, MOST_POKED = 65_536, 4_096, 16_384
 
 
 def number(word):
@@ -92,6 +95,10 @@ def plain(words, _region):
             if address is not None and way == "read" and not begins_hex(rest[1:]):
                 return way, address, None, 4
             return access(way, address, hexadecimal(rest[1]) if len(rest) > 1 else None, 4)
+        if STORED.fullmatch(word) and rest and hexadecimal(rest[0]) is not None:
+            if len(rest) != 2 or not OCTETS.fullmatch(rest[1]):
+                return FAULT
+            return "memory", hexadecimal(rest[0]), bytes.fromhex(rest[1].decode())
     return NOTHING
 
 
@@ -103,7 +110,7 @@ class Log:
         self.form, self.region, self.base = form, region, base
 
     def read(self, line):
-        """What a line is: `nothing`, `elsewhere`, `fault`, or way, offset, value and size."""
+        """What a line is: `nothing`, `elsewhere`, `fault`; way, offset, value and size; or `memory`, address and octets."""
         words = [word for word in re.split(rb"[ \t\r]", line) if word]
         if self.form is None:
             fits = (name for name, form in FORMS.items() if form([*words], self.region) not in (NOTHING, FAULT))
@@ -112,12 +119,14 @@ class Log:
         if self.base is None and not isinstance(said, str):
             if said[0] == "base":
                 self.base = said[1]
-            elif self.form != "mmiotrace":
+            elif self.form != "mmiotrace" and said[0] != "memory":
                 self.base = said[1] - said[1] % SPACE if self.form == "qemu" else 0
         if isinstance(said, str):
             return said
         if said[0] == "base":
             return NOTHING
+        if said[0] == "memory":
+            return FAULT if len(line) >= MOST_KEPT else said
         way, address, value, size = said
         if self.base is None or not 0 <= address - self.base < SPACE:
             return ELSEWHERE
@@ -176,7 +185,7 @@ class Places:
         self.enabled, sends, ring, tail, low, self.lines = False, False, 0, 0, 0, 0
         for count, line in enumerate(lines_of(log), 1):
             self.lines, said = count, reader.read(line)
-            if isinstance(said, str):
+            if isinstance(said, str) or said[0] == "memory":
                 continue
             (way, offset, value, size), time = said, time_of(reader.form, line)
             is_icr = way == "read" and offset == 0xC0 and size == 4 and value is not None
@@ -358,6 +367,12 @@ class Rings:
         return [f"# em_debug --memory {sizes[0] // 2**20}M" + (f" --base {base:X}" if base else "")]
 
 
+def poked(address, octets):
+    """The lines that write octets to memory."""
+    places = range(0, len(octets), MOST_POKED)
+    return [f"poke {(address + at) % 2**64:X} {octets[at : at + MOST_POKED].hex().upper()}" for at in places]
+
+
 def script_of(log, reader, missing, frames=(), at=None, link=True, others=True, polls=False, lines=(1, None)):
     """The script of a log, as octets. `missing` has the names of registers that the model lacks; without `others`,
     accesses of something else are no comments; with `polls`, each read of a poll has its line; `lines` are the first
@@ -379,8 +394,13 @@ def script_of(log, reader, missing, frames=(), at=None, link=True, others=True, 
                 head = []
         if said == FAULT or said == ELSEWHERE and others:
             script += poll.ended()
-            script.append(f"# line {count}: ".encode() + line)
+            script.append(f"# line {count}: ".encode() + line[:MOST_SHOWN])
         if isinstance(said, str):
+            continue
+        if said[0] == "memory":
+            script += head + poll.ended() + poked(*said[1:])
+            rings.lie.append((said[1], said[1] + len(said[2])))
+            head = []
             continue
         (way, offset, value, size), time = said, time_of(reader.form, line)
         script += head

@@ -7,7 +7,7 @@ use Rattle.em_log.specs.declared.told.Told.TheVariants as told
 use Rattle.em_log.specs.declared.log.Form.{Form}
 use Rattle.em_log.specs.declared.log.Form.TheVariants.{Qemu, Mmiotrace, Plain}
 use Rattle.em_log.specs.declared.log.Entry.{Entry}
-use Rattle.em_log.specs.declared.log.Entry.TheVariants.{Access, Elsewhere, Nothing, Fault}
+use Rattle.em_log.specs.declared.log.Entry.TheVariants.{Access, Elsewhere, Memory, Nothing, Fault}
 use Rattle.em_log.specs.Qemu.{qemu_told}
 use Rattle.em_log.specs.Mmiotrace.{mmiotrace_told, space}
 use Rattle.em_log.specs.Plain.{plain_told}
@@ -25,6 +25,7 @@ abbrev pub fits : Told → Bool
 fits (told.Access access) = true
 fits told.Elsewhere = true
 fits (told.Base base) = true
+fits told.Memory = true
 fits told.Nothing = false
 fits told.Fault = false
 
@@ -58,6 +59,7 @@ abbrev pub base_told : Form → Told → Option ℕ
 base_told form (told.Access access) = base_by form access.address
 base_told form told.Elsewhere = None
 base_told form (told.Base base) = Some base
+base_told form told.Memory = None
 base_told form told.Nothing = None
 base_told form told.Fault = None
 
@@ -85,6 +87,7 @@ abbrev pub entry_of : Option ℕ → Told → Entry
 entry_of base (told.Access access) = placed base access
 entry_of base told.Elsewhere = Elsewhere
 entry_of base (told.Base at) = Nothing
+entry_of base told.Memory = Memory
 entry_of base told.Nothing = Nothing
 entry_of base told.Fault = Fault
 
@@ -92,5 +95,6 @@ entry_of base told.Fault = Fault
 abbrev pub IsWithin : Entry → Type 0
 IsWithin (Access access) = access.offset < space
 IsWithin Elsewhere = Unit
+IsWithin Memory = Unit
 IsWithin Nothing = Unit
 IsWithin Fault = Unit

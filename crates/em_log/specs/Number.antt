@@ -1,5 +1,5 @@
 -- Numbers as programs print them.
-use Rattle.std.specs.Prelude.{ℕ, Bool, false, ◌==◌, ◌&&◌, ◌||◌, if◌then◌else◌, List, [], ◌∷◌, Option, None, option_map}
+use Rattle.std.specs.Prelude.{ℕ, Bool, false, ◌==◌, ◌&&◌, ◌||◌, if◌then◌else◌, List, ◌∷◌, Option, None, option_map}
 use Rattle.em_text.specs.Numbers.{decimal_number, hex_address}
 use Rattle.em_text.specs.Words.{words_of, read_first}
 

@@ -2,7 +2,7 @@
 --   [PID@TIME:]memory_region_ops_read cpu CPU mr REGION addr ADDRESS value VALUE size SIZE name 'NAME'
 -- and as its simpletrace.py prints them:
 --   memory_region_ops_read TIME pid=PID cpu_index=CPU mr=REGION addr=ADDRESS value=VALUE size=SIZE name=b'NAME'
-use Rattle.std.specs.Prelude.{ℕ, ◌+◌, ◌-◌, Bool, ◌==◌, ◌&&◌, ◌||◌, nat_lt, if◌then◌else◌, List, [], ◌∷◌, length, codes}
+use Rattle.std.specs.Prelude.{ℕ, ◌-◌, Bool, ◌==◌, ◌&&◌, ◌||◌, nat_lt, if◌then◌else◌, List, [], ◌∷◌, length, codes}
 use Rattle.std.specs.Prelude.{drop, take, slice_index, Option, Some, None}
 use Rattle.std.specs.Str.{bytes_eq}
 use Rattle.em_text.specs.Words.{words_of}

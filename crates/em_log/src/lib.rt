@@ -16,4 +16,5 @@ mod told;
 
 pub use likeness::looks_like_access;
 pub use log::{Entry, Form, Log, RegisterAccess};
+pub use plain::{MemoryWrite, memory_written};
 pub use told::{Way, Width};

@@ -39,6 +39,8 @@ pub enum Entry {
     Access(RegisterAccess),
     /// An access of something else: of another region, or outside of the adapter's registers.
     Elsewhere,
+    /// What a driver wrote into guest memory, of which `memory_written` has the address and the octets.
+    Memory,
     /// A line of another kind.
     Nothing,
     /// It begins as an access, and can't be read.
@@ -129,7 +131,7 @@ fn fits(told: Told) -> bool
     ensures { result ≡ fits told }
 {
     match told {
-        Told::Access(_) | Told::Elsewhere | Told::Base(_) => true,
+        Told::Access(_) | Told::Elsewhere | Told::Base(_) | Told::Memory => true,
         Told::Nothing | Told::Fault => false,
     }
 }
@@ -145,7 +147,7 @@ fn base_told(form: Form, told: Told) -> Option<u64>
             Form::Mmiotrace => None,
             Form::Plain => Some(0),
         },
-        Told::Elsewhere | Told::Nothing | Told::Fault => None,
+        Told::Elsewhere | Told::Memory | Told::Nothing | Told::Fault => None,
     }
 }
 
@@ -157,6 +159,7 @@ fn entry_of(base: Option<u64>, told: Told) -> Entry
     match told {
         Told::Access(access) => placed(base, access),
         Told::Elsewhere => Entry::Elsewhere,
+        Told::Memory => Entry::Memory,
         Told::Base(_) | Told::Nothing => Entry::Nothing,
         Told::Fault => Entry::Fault,
     }

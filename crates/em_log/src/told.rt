@@ -36,6 +36,8 @@ pub(crate) enum Told {
     Elsewhere,
     /// The registers lie from this address on.
     Base(u64),
+    /// A write into guest memory.
+    Memory,
     /// It is a line of another kind.
     Nothing,
     /// It begins as an access, and can't be read.

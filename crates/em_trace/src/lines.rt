@@ -3,8 +3,8 @@
 use em_text::next_line;
 use std::io::{BufRead, Result};
 
-/// How many octets of a line are kept: an access takes far fewer.
-const MOST_KEPT: usize = 4_096;
+/// How many octets of a line are kept: an access takes far fewer, and a write into memory has its octets there.
+pub const MOST_KEPT: usize = 65_536;
 
 /// Reads a line in place of what `line` held, and nothing behind it: false where the reader is at its end.
 ///

@@ -1,4 +1,4 @@
-//! Where the rings of a log lie, and what memory has room for them.
+//! Where the rings of a log lie, and what it writes into memory, and what memory has room for them.
 
 use crate::shown::value_of;
 use anyhow::Result;
@@ -42,7 +42,7 @@ impl Lies {
     }
 }
 
-/// Where the rings lie that a log gives to the adapter.
+/// Where the rings lie that a log gives to the adapter, and what it writes into memory.
 #[derive(Clone, Copy, Debug)]
 pub struct Rings {
     rx: Lies,
@@ -92,8 +92,12 @@ impl Rings {
         if ring.length == 0 {
             return;
         }
-        let from = ring.base();
-        let to = from.saturating_add(u64::from(ring.length));
+        self.cover(ring.base(), u64::from(ring.length));
+    }
+
+    /// So many octets from an address on are the script's, too.
+    pub fn cover(&mut self, from: u64, len: u64) {
+        let to = from.saturating_add(len);
         self.lie = match self.lie {
             Some((first, last)) => Some((first.min(from), last.max(to))),
             None => Some((from, to)),

@@ -3,7 +3,7 @@
 use crate::clock::Moment;
 use anyhow::{Result, bail};
 use em_log::{RegisterAccess, Way};
-use em_text::{octet_digits, write_pieces, write_whole};
+use em_text::{octet_digits, write_octets_line, write_pieces, write_whole};
 use std::io::Write;
 
 /// How many digits of 32 bits an offset, which has 5, leaves out.
@@ -146,10 +146,30 @@ pub fn write_poll<W: Write>(
     write_moment(out, moment)
 }
 
+/// How many octets of a line of the log a comment has.
+const MOST_SHOWN: usize = 4_096;
+
 /// Writes a line of the log as a comment.
 pub fn write_kept<W: Write>(out: &mut W, line: u64, text: &[u8]) -> Result<()> {
     write!(out, "# line {line}: ")?;
-    write_parts(out, &[text, b"\n"])
+    let shown = text.len().min(MOST_SHOWN);
+    write_parts(out, &[&text[..shown], b"\n"])
+}
+
+/// How many octets one line of the script writes to memory.
+const MOST_POKE: usize = 16_384;
+
+/// Writes the lines that write octets to memory: `poke 2000 00200000`.
+pub fn write_memory<W: Write>(out: &mut W, address: u64, octets: &[u8]) -> Result<()> {
+    let mut at = address;
+    for part in octets.chunks(MOST_POKE) {
+        write!(out, "poke {at:X} ")?;
+        if write_octets_line(out, part).is_err() {
+            bail!("the script cannot be written");
+        }
+        at = at.wrapping_add(part.len() as u64);
+    }
+    Ok(())
 }
 
 /// How many octets of a line are told.

@@ -3,18 +3,20 @@
 use crate::clock::{Moment, moment_of};
 use crate::done::Done;
 use crate::frames::Frames;
-use crate::lines::read_line;
+use crate::lines::{MOST_KEPT, read_line};
 use crate::missing::missing_name;
 use crate::poll::Poll;
 use crate::ranges::Lines;
 use crate::rings::{Rings, Room};
 use crate::shown::{Address, value_of};
 use crate::text::{
-    write_access, write_kept, write_missing, write_other_size, write_poll, write_text, write_unlike,
+    write_access, write_kept, write_memory, write_missing, write_other_size, write_poll,
+    write_text, write_unlike,
 };
 use anyhow::{Context, Result};
-use em_log::{Entry, Form, Log, RegisterAccess, Way, Width, looks_like_access};
+use em_log::{Entry, Form, Log, RegisterAccess, Way, Width, looks_like_access, memory_written};
 use em_regs::{Profile, Reg};
+use em_text::octets_into;
 use std::alloc::{AllocError, Global};
 use std::io::{BufRead, Write};
 
@@ -76,6 +78,8 @@ struct Script<'a> {
     done: Done,
     /// Lines that are not written yet.
     lines: Vec<u8>,
+    /// The octets that a line says were written into memory.
+    written: Vec<u8>,
     /// How the script begins, if it has not begun.
     begins: Option<Link>,
     /// Which registers it may access.
@@ -114,6 +118,7 @@ impl<'a> Script<'a> {
             frames,
             done: Done::new(alloc, wanted.lines)?,
             lines: Vec::new(alloc),
+            written: Vec::new(alloc),
             begins: Some(wanted.link),
             profile: wanted.profile,
             skips_others: wanted.skips_others,
@@ -155,7 +160,7 @@ impl<'a> Script<'a> {
             return Ok(false);
         }
         let text = line.as_slice();
-        let entry = log.read(text);
+        let entry = whole(log.read(text), text);
         if self.done.passes(number) {
             self.arrive(number, out)?;
             self.tell(rt, number, text, entry)?;
@@ -231,6 +236,7 @@ impl<'a> Script<'a> {
                 self.done.other_octets = self.done.other_octets.saturating_add(octets);
                 Ok(())
             }
+            Entry::Memory => self.take_memory(text),
             Entry::Nothing => Ok(()),
             Entry::Fault => {
                 done.faults = done.faults.saturating_add(1);
@@ -255,6 +261,21 @@ impl<'a> Script<'a> {
             self.poll = Poll::begun_by(logged.access);
         }
         self.write_line(logged)
+    }
+
+    /// The lines of what the driver wrote into guest memory.
+    fn take_memory(&mut self, text: &[u8]) -> Result<()> {
+        let Some(write) = memory_written(text) else {
+            return Ok(());
+        };
+        self.begin()?;
+        self.end_poll()?;
+        if !octets_into(&mut self.written, write.digits)? {
+            return Ok(());
+        }
+        let octets = self.written.as_slice();
+        self.rings.cover(write.address, octets.len() as u64);
+        write_memory(&mut self.lines, write.address, octets)
     }
 
     /// Counts an access that the model can't have.
@@ -346,5 +367,14 @@ impl<'a> Script<'a> {
         write_text(out, lines)?;
         self.lines.clear();
         Ok(())
+    }
+}
+
+/// What a line is, of which no more than [`MOST_KEPT`] octets were kept: one that was cut has not all that was written.
+fn whole(entry: Entry, text: &[u8]) -> Entry {
+    if entry == Entry::Memory && text.len() >= MOST_KEPT {
+        Entry::Fault
+    } else {
+        entry
     }
 }

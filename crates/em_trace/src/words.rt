@@ -24,7 +24,8 @@ are, reads with the value that the log has as the answer that is expected.";
 /// Which logs are read, an example, and the statuses.
 const LOGS: &str = "\
 The logs: QEMU's trace events memory_region_ops_read and memory_region_ops_write (-trace, or simpletrace.py), Linux's
-mmiotrace, and lines with `read 0xOFFSET 0xVALUE` or `write 0xOFFSET 0xVALUE` in them, as a driver prints them.
+mmiotrace, and lines with `read 0xOFFSET 0xVALUE` or `write 0xOFFSET 0xVALUE` in them, as a driver prints them; it may
+print what it writes into guest memory, too, as `mem 0xADDRESS OCTETS`.
 
 For example, `em_trace qemu.log > driver.em && em_debug driver.em`.
 

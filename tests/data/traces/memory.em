@@ -1,0 +1,17 @@
+# em_debug --memory 128M --base 80000000
+link up
+w 000C0 00000004
+poke 80001000 00200080000000000000000000000000
+poke 80002000 FFFFFFFFFFFF5254001234560806
+w 02818 00000001
+# line 6: e1000: mem 0x1000 0
+# line 7: e1000: mem 0x1000
+# line 8: e1000: mem 0x1000 00 11
+# line 9: e1000: mem 0x1000 xy
+poke 80003000 AB
+r 000C0 = 00000000
+# 1 more read gave the same, the last in line 12
+poke 80003004 7F
+r 000C0 = 00000000
+# line 15: e1000: mem 0x10 00 read 0x8 0x5
+w 00038 00008100
