@@ -144,7 +144,8 @@ class Axes {
   /** @param {Run} run */
   constructor(run) {
     this.steps = new StepAxis(run.steps.length);
-    this.times = run.lines.hasTimes ? stepTimes(run) : null;
+    // (a run that is still read gets them when it is there)
+    this.times = run.isRead && run.lines.hasTimes ? stepTimes(run) : null;
     // (lines with times may have no step)
     if (this.times?.every(Number.isNaN)) this.times = null;
     /** @type {TimeAxis|null} */

@@ -3,9 +3,12 @@
 
 /** Numbers, one behind another, of which more may come. */
 class Numbers {
-  /** @param {Uint8ArrayConstructor|Uint16ArrayConstructor|Uint32ArrayConstructor|Float64ArrayConstructor} type */
-  constructor(type) {
-    this.values = new type(1024);
+  /**
+   * @param {Uint8ArrayConstructor|Uint16ArrayConstructor|Uint32ArrayConstructor|Float64ArrayConstructor} type
+   * @param {number} [room] for so many at first
+   */
+  constructor(type, room = 1024) {
+    this.values = new type(room);
     this.length = 0;
   }
 
@@ -84,10 +87,8 @@ class Letters {
     this.decoder = new TextDecoder();
   }
 
-  /** The text between two places. @param {Uint8Array} octets */
-  at(octets, from, end) {
-    let sum = end - from;
-    for (let i = from; i < end; i++) sum = (Math.imul(sum, 31) + octets[i]) | 0;
+  /** The text between two places. @param {Uint8Array} octets @param {number} sum of its letters, as `grow` makes it */
+  at(octets, from, end, sum) {
     const { places, texts } = this, mask = places.length - 1;
     let place = (sum ^ (sum >>> 15)) & mask;
     for (; places[place]; place = (place + 1) & mask) {
@@ -110,7 +111,7 @@ class Letters {
   grow() {
     const { texts } = this, places = new Uint32Array(4 * this.places.length), mask = places.length - 1;
     texts.forEach((text, number) => {
-      let sum = text.length;
+      let sum = 0;
       for (let i = 0; i < text.length; i++) sum = (Math.imul(sum, 31) + text.charCodeAt(i)) | 0;
       let place = (sum ^ (sum >>> 15)) & mask;
       while (places[place]) place = (place + 1) & mask;

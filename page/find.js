@@ -99,7 +99,10 @@ class Finder {
   /** What is found. @param {string} text @returns {{hits: Hits, fault: string}} */
   find(text) {
     const { terms, fault } = termsOf(text);
-    if (fault || !terms.length) return { hits: { steps: new Uint32Array(0), lines: new Uint32Array(0) }, fault };
+    // (what is still to be read may have it too)
+    if (fault || !terms.length || !this.run.isRead) {
+      return { hits: { steps: new Uint32Array(0), lines: new Uint32Array(0) }, fault };
+    }
     const { steps } = this.run, found = new Uint8Array(steps.length).fill(1);
     const tests = terms.map((term) => this.test(term, terms)).filter(Boolean);
     for (const { step: holds } of tests) {

@@ -7,6 +7,8 @@ const NIBBLES = new Uint8Array(256).fill(NO_DIGIT);
 for (const [code, value] of DIGITS) NIBBLES[code] = value;
 const QUOTE = 34, BACKSLASH = 92, FIRST_LETTER = 32, LAST_LETTER = 126, ZERO = 48, NINE = 57;
 const COMMA = 44, OPENED = 91, CLOSED = 93, ENDED = 125;
+/** How `"events"` begins. */
+const EVENTS_BEGIN = "e".charCodeAt(0), EVENTS_BEGIN_SO = "v".charCodeAt(0);
 /** A number with more digits is read as JSON. */
 const MOST_DIGITS = 15;
 /** What an event has that changed no register or no memory. @type {number[]} */
@@ -81,7 +83,7 @@ class Given {
 }
 
 const NAME_LETTERS = REGISTERS.map(([, name]) => lettersOf(name));
-const KIND_LETTERS = new Map(EVENT_KIND_LIST.map((kind) => [kind, lettersOf(kind)]));
+const KIND_LETTERS = EVENT_KIND_LIST.map(lettersOf);
 
 /** By a sum of its letters, the index of a register; one more than that, and 0 where none is. */
 const PLACES_OF_NAMES = new Uint16Array(NAME_PLACES);
@@ -196,10 +198,13 @@ class LineReader {
   /** A text of ASCII letters that stand for themselves, up to its quotation mark. @private */
   string() {
     const { octets } = this, from = this.at;
-    let at = from, code = octets[at];
-    while (code !== QUOTE && code !== BACKSLASH && code >= FIRST_LETTER && code <= LAST_LETTER) code = octets[++at];
+    let at = from, code = octets[at], sum = 0;
+    while (code !== QUOTE && code !== BACKSLASH && code >= FIRST_LETTER && code <= LAST_LETTER) {
+      sum = (Math.imul(sum, 31) + code) | 0;
+      code = octets[++at];
+    }
     this.at = at + 1;
-    if (code === QUOTE) return this.letters.at(octets, from, at);
+    if (code === QUOTE) return this.letters.at(octets, from, at, sum);
     this.isOdd = true;
     return "";
   }
@@ -257,6 +262,16 @@ class LineReader {
     if (this.is(WORDS.text)) line.text = this.string();
     if (this.is(WORDS.kind)) line.kind = this.string();
     if (this.is(WORDS.answers)) line.answer = this.strings();
+    // (of most lines the number of events is next, which alone begins with these two letters)
+    if (this.octets[this.at + 2] !== EVENTS_BEGIN || this.octets[this.at + 3] !== EVENTS_BEGIN_SO) this.told(line);
+    const count = this.is(WORDS.events) ? this.number() : 0;
+    this.wantEnd();
+    if (count && !this.isOdd) line.events = this.events(count);
+    return line;
+  }
+
+  /** What else a line says. @private */
+  told(line) {
     if (this.is(WORDS.refused)) line.refused = this.string();
     if (this.is(WORDS.bad)) line.bad = true;
     if (this.is(WORDS.why)) line.why = this.string();
@@ -266,10 +281,6 @@ class LineReader {
     if (this.is(WORDS.source)) line.source = this.string();
     if (this.is(WORDS.time)) line.time = this.most(MOST_TIME);
     if (this.is(WORDS.back)) line.back = this.number();
-    const count = this.is(WORDS.events) ? this.number() : 0;
-    this.wantEnd();
-    if (count && !this.isOdd) line.events = this.events(count);
-    return line;
   }
 
   /** The end of an object and of its line. @private */
@@ -296,6 +307,13 @@ class LineReader {
     given.text = this.string();
     if (this.is(WORDS.registers)) this.registers(given);
     if (this.is(WORDS.memory)) this.memory(given);
+    if (this.octets[this.at] !== ENDED) this.changes(given);
+    this.wantEnd();
+    return given;
+  }
+
+  /** What else an event changed. @private @param {Given} given */
+  changes(given) {
     if (this.is(WORDS.frames)) given.frames = this.numbers();
     if (this.is(WORDS.stored)) this.digits();
     if (this.is(WORDS.gathered)) this.gathered(given);
@@ -305,17 +323,17 @@ class LineReader {
     }
     if (this.is(WORDS.link)) given.link = this.booleans();
     if (this.is(WORDS.interrupt)) given.interrupt = this.booleans();
-    this.wantEnd();
-    return given;
   }
 
   /** @private */
   kind() {
-    for (const kind of EVENT_KIND_LIST) {
-      if (standsAt(this.octets, this.at, KIND_LETTERS.get(kind)) && this.octets[this.at + kind.length] === QUOTE) {
-        this.at += kind.length + 1;
-        return kind;
-      }
+    for (let at = 0; at < EVENT_KIND_LIST.length; at++) {
+      const kind = EVENT_KIND_LIST[at];
+      if (this.octets[this.at] !== KIND_LETTERS[at][0] || !standsAt(this.octets, this.at, KIND_LETTERS[at])) continue;
+      // (none begins with another one)
+      this.at += kind.length;
+      this.wantMark(QUOTE);
+      return kind;
     }
     this.isOdd = true;
     return "";

@@ -89,6 +89,8 @@ class Lanes {
   paint() {
     const { asked } = this.app;
     setHidden(this.button, !asked || !isOfLane(asked.watch) || this.list.some(({ text }) => text === asked.text));
+    // (a lane goes over the whole run)
+    this.button.disabled = !this.app.run.isRead;
   }
 }
 

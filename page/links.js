@@ -16,6 +16,7 @@ const WATCH_WORDS = new Map([["line", "interrupt"], ["link", "link"], ["frames",
  * @property {number} line the line to light, if not the step's own; else 0
  * @property {string} watch as `data-watch` has it; empty where nothing is asked
  * @property {string} find what is sought; empty where nothing is
+ * @property {string} waits what place is to be read yet, in words; empty where it was read
  */
 
 /**
@@ -53,13 +54,17 @@ function linkPart(name, text) {
  * @returns {{link: Link, faults: string[]}}
  */
 function readLink(text, run) {
-  const link = { step: run.steps.length - 1, line: 0, watch: "", find: "" }, faults = [], seen = new Set();
+  const link = { step: -1, line: 0, watch: "", find: "", waits: "" }, faults = [], seen = new Set();
   for (const part of text.replace(/^#/, "").split("&").filter(Boolean)) {
     const [name, value] = partOfLink(part), kind = PLACE_PARTS.has(name) ? "place" : name;
     const fault = seen.has(kind) ? "stands beside another one" : LINK_PARTS.get(name)?.(value, link, run)
       ?? (LINK_PARTS.has(name) ? "" : "says nothing here");
     if (fault) faults.push(`“${visible(shortened(value === null ? name : `${name}=${value}`, 80))}” ${fault}`);
     seen.add(kind);
+  }
+  if (link.step < 0) {
+    link.step = run.steps.length - 1;
+    if (!run.isRead) link.waits ||= "the end";
   }
   return { link, faults };
 }
@@ -76,20 +81,29 @@ function partOfLink(part) {
 
 const PLACE_PARTS = new Set(["event", "step", "line"]);
 
+/** What is wrong with the number of a place that was not read; where it may come yet, the link waits for it. */
+function missing(name, value, link, { isRead }) {
+  if (isRead || !isWithin(value, MOST_EVENTS)) return `is no ${name} of this ${name === "line" ? "script" : "run"}`;
+  link.waits = `${name} ${Number(value).toLocaleString("en")}`;
+  return "";
+}
+
 /** By part: puts what it says into a link, or gives what is wrong with it. */
 const LINK_PARTS = new Map([
-  ["event", (value, link, { places, steps }) => {
-    if (!isWithin(value, steps.performed)) return "is no event of this run";
-    link.step = places.step.at(Number(value));
+  ["event", (value, link, run) => {
+    if (!isWithin(value, run.steps.performed)) return missing("event", value, link, run);
+    link.step = run.places.step.at(Number(value));
     return "";
   }],
-  ["step", (value, link, { steps }) => {
-    if (!isWithin(value, steps.length - 1)) return "is no step of this run";
+  ["step", (value, link, run) => {
+    if (!isWithin(value, run.steps.length - 1)) return missing("step", value, link, run);
     link.step = Number(value);
     return "";
   }],
-  ["line", (value, link, { lines, script, steps }) => {
-    if (!isWithin(value, script.length) || Number(value) === 0) return "is no line of this script";
+  ["line", (value, link, run) => {
+    const { lines, steps } = run;
+    if (Number(value) === 0) return "is no line of this script";
+    if (!isWithin(value, lines.length)) return missing("line", value, link, run);
     link.line = Number(value);
     link.step = lines.at(link.line)?.last ?? steps.length - 1;
     return "";
@@ -123,6 +137,8 @@ class Address {
     this.shown = null;
     /** When the last entry was made. */
     this.pushed = -Infinity;
+    /** What place the link leads to that is to be read yet, in words; empty where it leads on. */
+    this.waits = "";
     window.addEventListener("hashchange", () => this.arrive(), { signal: app.ending.signal });
   }
 
@@ -140,6 +156,21 @@ class Address {
 
   close() {
     clearTimeout(this.timer);
+  }
+
+  /** Follows the link that waits, once its place was read. @returns {boolean} whether it does */
+  follows() {
+    if (!this.waits) return false;
+    this.waits = readLink(window.location.hash, this.app.run).link.waits;
+    if (!this.waits) this.arrive();
+    return !this.waits;
+  }
+
+  /** Waits no longer, since one goes elsewhere. */
+  stop() {
+    if (!this.waits) return;
+    this.waits = "";
+    this.shown = window.location.hash;
   }
 
   /** Said before a jump: the place that is left stays in the browser's history, where one was there for a moment. */
@@ -185,6 +216,12 @@ class Address {
     const { link, faults } = readLink(window.location.hash, this.app.run);
     this.shown = null;
     this.tell(faults);
+    this.waits = link.waits;
+    if (link.waits) {
+      this.app.search.set(link.find);
+      this.app.paint();
+      return;
+    }
     this.app.show(link);
     this.shown = this.link();
   }

@@ -10,7 +10,7 @@ class App {
     /** Ends what listens to more than the page's main element. */
     this.ending = new AbortController();
     /** @type {number} the place in the run: a step */
-    this.step = run.steps.length - 1;
+    this.step = run.isRead ? run.steps.length - 1 : 0;
     this.state.goTo(this.number);
     this.line = run.steps.lines.at(this.step);
     /**
@@ -20,6 +20,8 @@ class App {
     this.asked = null;
     this.origin = 0;
     this.trail = [];
+    /** Whether the end was chosen, while there is more to be read. */
+    this.endWaits = false;
     this.address = new Address(this);
     this.search = new Search(this);
     this.rings = [new RingPanel(this, "rx"), new RingPanel(this, "tx")];
@@ -66,6 +68,8 @@ class App {
   /** Goes to a step, which is brought within the run. @param {number} line the line to light, if not the step's own */
   goTo(step, playing = false, line = 0) {
     if (!playing) this.timeline.play(false);
+    this.address.stop();
+    this.endWaits = false;
     this.step = Math.max(0, Math.min(this.run.steps.length - 1, step));
     this.line = line || this.run.steps.lines.at(this.step);
     this.state.goTo(this.number);
@@ -77,6 +81,22 @@ class App {
   jump(step, line = 0) {
     this.address.leave();
     this.goTo(step, false, line);
+  }
+
+  /** Goes to the end; where more is read yet, on with it. */
+  toEnd() {
+    this.jump(Infinity);
+    this.endWaits = !this.run.isRead;
+  }
+
+  /** Shows what was read since. */
+  grow() {
+    const { endWaits } = this;
+    for (const panel of this.panels) panel.grow?.();
+    if (endWaits) this.goTo(Infinity);
+    this.endWaits = endWaits && !this.run.isRead;
+    const isThere = this.address.follows() || this.search.follows();
+    if (!isThere && !endWaits) this.paint();
   }
 
   /** Shows what a link says. @param {Link} link */
@@ -230,7 +250,7 @@ class App {
       "+": () => this.timeline.zoom(ZOOM_FACTOR), "-": () => this.timeline.zoom(1 / ZOOM_FACTOR),
       0: () => this.timeline.zoom(0), t: () => this.timeline.turn(),
       PageUp: () => this.goTo(this.step - PAGE_STEPS), PageDown: () => this.goTo(this.step + PAGE_STEPS),
-      Home: () => this.jump(0), End: () => this.jump(Infinity),
+      Home: () => this.jump(0), End: () => this.toEnd(),
       Escape: () => this.asked !== null && this.jump(this.origin),
       n: () => this.search.go(1), p: () => this.search.go(-1), "/": () => this.search.focus(),
       d: () => this.beside.go(1), D: () => this.beside.go(-1), o: () => this.beside.swap(),
@@ -287,9 +307,20 @@ class Shown {
       byId("run").replaceWith(this.main.cloneNode(true));
       widths.clear();
     }
-    setText(byId("settings"), settingsText(this.runs[side]));
     byId("run").hidden = false;
     this.app = new App(this.runs[side], this, side);
+    this.settings();
+  }
+
+  /** @private */
+  settings() {
+    setText(byId("settings"), this.app.run.isRead ? settingsText(this.app.run) : "");
+  }
+
+  /** Shows what was read of the run since. */
+  grow() {
+    this.app.grow();
+    this.settings();
   }
 
   /** Shows the other run at a step. @param {number|null} difference that is shown */
@@ -311,69 +342,14 @@ function show(reads) {
   if (runs.length) new Shown(runs);
 }
 
-/** Reads a packed record. @param {string} letters @returns {Promise<{run: Run|null, fault: string|null}>} */
-async function readPacked(letters) {
-  const told = byId("reading"), packed = new Reading();
-  setHidden(told, false);
-  try {
-    await unpack(letters, (part) => packed.take(part),
-      (share) => setText(told, `Reading the run: ${Math.floor(100 * share)} %`));
-  } catch (fault) {
-    setHidden(told, true);
-    return { run: null,
-      fault: `it was packed, and can’t be unpacked (${fault instanceof Error ? fault.message : fault})` };
-  }
-  return packed.end();
-}
-
-/** The records of the page, each by the elements that it stands in. @returns {{name: string, elements: HTMLElement[]}[]} */
-function recordsOfPage() {
-  const elements = [...document.querySelectorAll("script.record")];
-  const second = elements.findIndex((one, index) => index > 0 && one.dataset.name !== undefined);
-  return (second < 0 ? [elements] : [elements.slice(0, second), elements.slice(second)])
-    .map((own) => ({ name: visible(own[0].dataset.name ?? ""), elements: own }));
-}
-
-/** The octets of a record that stands in some elements. @param {HTMLElement[]} elements */
-function octetsOfPage(elements) {
-  const encoder = new TextEncoder();
-  return elements.map((part) => encoder.encode(part.textContent));
-}
-
-/** The letters of a packed record; the page keeps them no longer. @param {HTMLElement} element */
-function lettersOfPage(element) {
-  const letters = element.textContent;
-  element.textContent = "";
-  return letters;
-}
-
-/** Reads and shows records of which one is packed. */
-async function showPacked(records) {
-  const reads = [];
-  for (const { name, elements } of records) {
-    try {
-      reads.push({ ...(elements[0].type === PACKED_TYPE ? await readPacked(lettersOfPage(elements[0]))
-        : readRecord(octetsOfPage(elements))), name });
-    } catch (fault) {
-      reads.push({ run: null,
-        fault: `this page can’t show it (${fault instanceof Error ? fault.message : fault})`, name });
-    }
-  }
-  guarded(() => show(reads));
-}
-
 /** Does something, and says what failed. */
 function guarded(work) {
   try {
     work();
   } catch (fault) {
-    tellBroken(`this page can’t show it (${fault instanceof Error ? fault.message : fault})`, null);
+    tellBroken(`this page can’t show it (${wordsOfFault(fault)})`, null);
   }
 }
 
-guarded(() => {
-  readPalette();
-  const records = recordsOfPage();
-  if (records.some(({ elements }) => elements[0].type === PACKED_TYPE)) showPacked(records);
-  else show(records.map(({ name, elements }) => ({ ...readRecord(octetsOfPage(elements)), name })));
-});
+guarded(readPalette);
+readPage();

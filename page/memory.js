@@ -47,7 +47,7 @@ class MemoryPanel {
   constructor(app) {
     this.app = app;
     ({ base: this.base, end: this.end } = app.state.memory);
-    [this.mapFrom, this.mapEnd] = mappedRange(app.state.memory, app.run.touched);
+    this.grow();
     this.address = this.base;
     this.focus = this.base;
     this.map = byId("map");
@@ -64,6 +64,11 @@ class MemoryPanel {
       make("li", {}, make("span", { class: `swatch map-${name}` }), words)),
     make("li", {}, make("span", { class: "swatch map-shown" }), "shown below"));
     this.makeRows();
+  }
+
+  /** The map takes what was read since. */
+  grow() {
+    [this.mapFrom, this.mapEnd] = mappedRange(this.app.state.memory, this.app.run.touched);
   }
 
   /** @private */
@@ -277,8 +282,8 @@ class MemoryPanel {
   paintMap() {
     const cell = this.cell();
     const filled = this.filledCells(cell);
-    const key = [widthOf(this.map), window.devicePixelRatio, palette.version, this.address, this.across(), this.regionsKey,
-      filled].join();
+    const key = [widthOf(this.map), this.mapFrom, cell, window.devicePixelRatio, palette.version, this.address,
+      this.across(), this.regionsKey, filled].join();
     if (key === this.mapKey) return;
     this.mapKey = key;
     const { columns, rows, side } = this.shape(widthOf(this.map));

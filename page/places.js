@@ -67,15 +67,14 @@ class Places {
     /** By event, the least part of memory that has each octet which it changed. */
     this.from = new Numbers(Float64Array);
     this.to = new Numbers(Float64Array);
+    /** How many frames waited in the FIFO at most. */
+    this.mostFrames = 0;
+    /** How many of them the page knows of, the start among them. */
+    this.length = 0;
     /** Events that were read whole. @type {Map<number, Change>} */
     this.read = new Map();
     this.changesFrom.push(0);
     this.add(0, new Given(0, "start"), this.texts.numberOf(""), 0);
-  }
-
-  /** How many there are, the start among them. */
-  get length() {
-    return this.before.length;
   }
 
   /**
@@ -87,10 +86,10 @@ class Places {
    * @returns {number} its number
    */
   add(before, given, text, access) {
-    const number = this.length;
+    const number = this.before.length;
     this.before.push(before);
     this.depth.push(number ? this.depth.at(before) + 1 : 0);
-    this.step.push(this.steps.length);
+    this.step.push(this.steps.count);
     this.takenBack.push(NEVER);
     this.access.push(access);
     this.text.push(text);
@@ -110,6 +109,7 @@ class Places {
       ? [this.arrival.at(before), this.sending.at(before)] : [0, 0];
     const waits = frames ? frames[1] : waited;
     this.frames.push(waits);
+    this.mostFrames = Math.max(this.mostFrames, waits);
     this.arrival.push(waits > waited ? this.arrivals.add(number, arrival) : arrival);
     this.sending.push(isSent ? this.sendings.add(number, sending) : sending);
     let text = number ? this.gathered.at(before) : 0;

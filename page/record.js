@@ -29,8 +29,9 @@ class Broken extends Error {}
  * @property {Places} places
  * @property {Uint32Array} registers as they were at the start
  * @property {[number, number]} touched the least part of memory that has each octet which an event changed
- * @property {State} state at the last place that was read
- * @property {boolean} ended
+ * @property {State} state that is shown
+ * @property {boolean} ended whether the record’s end says the same
+ * @property {boolean} isRead whether all of it was read that can be
  */
 
 /**
@@ -80,7 +81,10 @@ class Reading {
       const end = this.source.end(this.begin, this.next);
       this.reader.end(end);
     });
-    return { run: this.reader && this.reader.run, fault: this.fault };
+    if (!this.reader) return { run: null, fault: this.fault };
+    this.reader.tell();
+    this.reader.run.isRead = true;
+    return { run: this.reader.run, fault: this.fault };
   }
 }
 
@@ -121,10 +125,13 @@ class Reader {
     /** The line that was read last, and where its record is. */
     this.number = 0;
     this.index = 0;
+    /** At the last place that was read. */
+    this.state = new State(places, registers, new Memory(base, settings.memory), new Snapshots(places));
+    this.state.snapshots.keep(this.state);
     /** @type {Run} */
     this.run = {
-      settings, script: [], lines, steps, places, touched: [Infinity, -Infinity], ended: false,
-      registers: registers.slice(), state: new State(places, registers, new Memory(base, settings.memory)),
+      settings, script: [], lines, steps, places, touched: [Infinity, -Infinity], ended: false, isRead: false,
+      registers: registers.slice(), state: this.state,
     };
     /** By text of an event, one that was found to say the same in its fields. @type {Given[]} */
     this.said = [];
@@ -142,13 +149,22 @@ class Reader {
     this.line(line, `line ${this.number}`);
   }
 
+  /** Lets the page know of what was read up to here. */
+  tell() {
+    const { steps, places, lines, script } = this.run;
+    steps.length = steps.count;
+    places.length = steps.performing + 1;
+    lines.length = script.length;
+    lines.count = lines.lasts.length;
+  }
+
   end(end) {
     want(end !== undefined, "it was cut off: it has no end");
-    const { state, lines } = this.run;
+    const { state, run: { lines } } = this, count = lines.lasts.length;
     want(isObject(end) && isNumber(end.events, Infinity) && isNumber(end.lines, Infinity), "its end can’t be read");
     const stand = state.place.depth;
     want(end.events === stand, `its end says ${counted(end.events, "event")}, and ${stand} stand there`);
-    want(end.lines === lines.count, `its end says ${counted(end.lines, "line")}, and ${lines.count} are there`);
+    want(end.lines === count, `its end says ${counted(end.lines, "line")}, and ${count} are there`);
     this.run.ended = true;
   }
 
@@ -156,35 +172,36 @@ class Reader {
   line(line, name) {
     const { steps, lines } = this.run;
     checkLine(line, name);
-    const first = steps.length, mark = markOf(line), { kind } = line;
+    const first = steps.count, mark = markOf(line), { kind } = line;
     lines.begin(this.index);
     if (line.back !== undefined) this.back(line, name);
     for (let index = 0; index < line.events.length; index++) {
       if (!isObject(line.events[index])) fail(`an event of ${name} is no object`);
       this.event(line.events[index], line, index + 1);
     }
-    if (steps.length === first && (kind !== undefined || line.bad)) {
+    if (steps.count === first && (kind !== undefined || line.bad)) {
       this.add(kind === undefined || kind === "plan" ? "look" : kind, mark, line.line, false, isWarned(line));
     }
-    const last = steps.length - 1;
+    const last = steps.count - 1;
     lines.add(line, mark, Math.min(first, last), last);
+    lines.sourced(steps, first);
   }
 
   /** @private */
   back(line, name) {
-    const { state, steps, places } = this.run;
+    const { state, run: { steps, places } } = this;
     want(isNumber(line.back, state.place.depth), `${name} takes back more events than stand there`);
     for (let i = 0; i < line.back; i++) {
-      places.takenBack.set(state.number, steps.length);
+      places.takenBack.set(state.number, steps.count);
       state.backward();
     }
-    if (line.back > 0) steps.backs.set(steps.length, line.back);
+    if (line.back > 0) steps.backs.set(steps.count, line.back);
     this.add("back", markOf(line), line.line, false);
   }
 
   /** @private */
   event(event, line, access) {
-    const { places, state } = this.run;
+    const { state, run: { places } } = this;
     this.performed += 1;
     if (event.event !== this.performed) this.fail(line, "has another number");
     const form = line.isGiven ? "" : formFault(event);
@@ -197,7 +214,7 @@ class Reader {
     this.widen(number);
     state.forward(number, given);
     this.agrees(line);
-    if (state.isDue(number)) state.keep();
+    if (state.snapshots.isDue(number)) state.snapshots.keep(state);
     const isLast = access === line.events.length;
     const mark = given.answer === "dropped" ? "dropped" : isLast && line.refused !== undefined ? "refused"
       : isLast && line.differs ? "differs" : isLast && isWarned(line) ? "warning" : "";
@@ -238,7 +255,7 @@ class Reader {
 
   /** The link and the interrupt line stand in registers too. @private */
   agrees(line) {
-    const { state, places } = this.run, signals = places.signals.at(state.number);
+    const { state, run: { places } } = this, signals = places.signals.at(state.number);
     if (((state.at("STATUS") >>> LINK_UP) & 1) !== (signals & LINK ? 1 : 0)) {
       this.fail(line, "leaves a link that STATUS contradicts");
     }
@@ -249,12 +266,12 @@ class Reader {
 
   /** @private */
   add(kind, mark, line, performs, warned = false) {
-    this.run.steps.add(kind, mark, line, performs, this.run.state, warned);
+    this.run.steps.add(kind, mark, line, performs, this.state, warned);
   }
 
   /** @private @param {Given} given */
   registersFault({ registers: changed }) {
-    const { registers } = this.run.state;
+    const { registers } = this.state;
     let last = -1;
     for (let i = 0; i < changed.length; i += 3) {
       const index = changed[i];
@@ -270,7 +287,7 @@ class Reader {
 
   /** @private @param {Given} given */
   memoryFault({ pieces, from }) {
-    const { memory } = this.run.state;
+    const { memory } = this.state;
     let end = 0;
     for (let i = 0; i < pieces.length; i += 4) {
       const address = pieces[i];
@@ -287,7 +304,7 @@ class Reader {
   /** @private @param {Given} given */
   framesFault({ frames: change }) {
     if (change === null) return "";
-    const { number, places } = this.run.state, frames = places.frames.at(number);
+    const { number, places } = this.state, frames = places.frames.at(number);
     if (!isNumber(change[1], frames + 1)) return "has a number of frames that can’t be";
     return change[0] === frames ? "" : `says that ${change[0]} frames waited before it, and ${frames} did`;
   }
@@ -295,14 +312,14 @@ class Reader {
   /** @private @param {Given} given */
   gatheredFault({ gathered: change }) {
     if (change === null) return "";
-    const { gathered } = this.run.state.place, [kept, before] = change;
+    const { gathered } = this.state.place, [kept, before] = change;
     if (kept > gathered.length / 2) return "has gathered octets that can’t be read";
     return gathered.slice(2 * kept) === before ? "" : "says what octets were gathered before it, and others were";
   }
 
   /** @private */
   flagFault(change, field) {
-    return change === null || change[0] === this.run.state.place[field] ? ""
+    return change === null || change[0] === this.state.place[field] ? ""
       : `says that the ${field} was another before it`;
   }
 }

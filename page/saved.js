@@ -62,6 +62,7 @@ class Saved {
   }
 
   paint() {
+    byId("save-script").disabled = !this.app.run.isRead;
     const count = this.app.place.sending?.count ?? 0;
     setText(byId("save-pcap"), `save ${counted(count, "frame")} as pcap`);
     byId("save-pcap").disabled = count === 0;

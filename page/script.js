@@ -14,18 +14,10 @@ class ScriptPanel {
     this.app = app;
     this.element = byId("script");
     this.room = byId("script-room");
-    this.total = LINE_HEIGHT * app.run.script.length;
-    this.tall = Math.min(this.total, MOST_ROOM);
-    this.room.style.setProperty("height", `${this.tall}px`);
-    const digits = String(app.run.script.length).length;
-    this.room.style.setProperty("--digits", String(Math.max(LEAST_DIGITS, digits)));
-    // a column of sources, where any line has one
-    this.columns = app.sources.list.length > 0;
-    const longest = app.sources.list.reduce((most, { text }) => Math.max(most, text.length), 0);
-    this.room.style.setProperty("--letters", String(Math.min(COLUMN_LETTERS, longest)));
     this.made = new Map();
     // where it is scrolled to, among all lines, and how tall it is: to ask at each step would lay the page out again
     this.top = 0;
+    this.measure();
     this.height = this.element.clientHeight;
     this.element.addEventListener("scroll", () => {
       this.top = this.element.scrollTop / this.share();
@@ -45,6 +37,35 @@ class ScriptPanel {
     }).observe(this.element);
   }
 
+  /** All that goes by how many lines there are. @private */
+  measure() {
+    const { lines } = this.app.run, sources = lines.texts.list;
+    this.count = lines.length;
+    this.total = LINE_HEIGHT * this.count;
+    this.tall = Math.min(this.total, MOST_ROOM);
+    this.room.style.setProperty("height", `${this.tall}px`);
+    this.room.style.setProperty("--digits", String(Math.max(LEAST_DIGITS, String(this.count).length)));
+    // a column of sources, where any line has one
+    this.columns = sources.length > 1;
+    const longest = sources.reduce((most, { length }) => Math.max(most, length), 0);
+    this.room.style.setProperty("--letters", String(Math.min(COLUMN_LETTERS, longest)));
+  }
+
+  /** Takes the lines that were read since. What is scrolled to stays. */
+  grow() {
+    const { columns } = this;
+    this.measure();
+    if (columns !== this.columns) this.drop();
+    for (const { option } of this.made.values()) setAttribute(option, "aria-setsize", this.count);
+    if (this.tall < this.total) this.element.scrollTop = this.top * this.share();
+  }
+
+  /** @private */
+  drop() {
+    for (const { option } of this.made.values()) option.remove();
+    this.made.clear();
+  }
+
   /** What a point of all lines is in the room, where these are taller. @private */
   share() {
     return this.tall < this.total ? (this.tall - this.height) / (this.total - this.height) : 1;
@@ -62,7 +83,7 @@ class ScriptPanel {
     if (by === undefined || event.ctrlKey || event.altKey || event.metaKey) return;
     event.preventDefault();
     event.stopPropagation();
-    const number = Math.max(1, Math.min(this.app.run.script.length, this.app.line + by));
+    const number = Math.max(1, Math.min(this.count, this.app.line + by));
     this.choose(number);
   }
 
@@ -84,7 +105,7 @@ class ScriptPanel {
   /** Makes the lines that can be seen, and drops the others. @private */
   fill() {
     const first = Math.max(1, Math.floor(this.top / LINE_HEIGHT) + 1 - SPARE_LINES);
-    const last = Math.min(this.app.run.script.length, Math.ceil((this.top + this.height) / LINE_HEIGHT) + SPARE_LINES);
+    const last = Math.min(this.count, Math.ceil((this.top + this.height) / LINE_HEIGHT) + SPARE_LINES);
     for (const [number, { option }] of this.made) {
       if (number < first || number > last) {
         option.remove();
@@ -112,7 +133,7 @@ class ScriptPanel {
     const sign = mark && line.answer.length ? `${MARKS[mark][0]} ` : "";
     const source = line ? visible(shortPlace(line.source, COLUMN_LETTERS)) : "";
     const option = make("div", {
-      role: "option", id: `line-${number}`, "data-line": number, "aria-setsize": this.app.run.script.length,
+      role: "option", id: `line-${number}`, "data-line": number, "aria-setsize": this.count,
       "aria-posinset": number, class: text.trimStart().startsWith("#") ? "script-line comment" : "script-line",
       title: text,
     }, make("span", { class: "number" }, String(number)),

@@ -15,6 +15,8 @@ class Search {
     this.fault = "";
     /** How often something else was found: pictures of it are drawn anew. */
     this.version = 0;
+    /** Where to go when all of the run was read: to the next place, the one before, or nowhere. @type {1|-1|0} */
+    this.wanted = 0;
     this.listen();
   }
 
@@ -51,11 +53,30 @@ class Search {
   seek(text) {
     clearTimeout(this.timer);
     if (text === this.text || this.app.isClosed) return;
+    this.find(text);
+    this.app.paint();
+  }
+
+  /** @private */
+  find(text) {
     this.text = text;
     const { hits, fault } = this.finder.find(text);
     Object.assign(this, { hits, fault, version: this.version + 1 });
     setAttribute(this.box, "aria-invalid", fault ? "true" : null);
-    this.app.paint();
+  }
+
+  /** Seeks what was to be sought, once all of the run was read. */
+  grow() {
+    if (this.app.run.isRead && this.text) this.find(this.text);
+  }
+
+  /** Goes where it was to go then. @returns {boolean} whether it does */
+  follows() {
+    const { wanted } = this, { length } = this.hits.steps;
+    if (!this.app.run.isRead || !wanted) return false;
+    this.wanted = 0;
+    this.go(wanted);
+    return length > 0;
   }
 
   focus() {
@@ -66,11 +87,18 @@ class Search {
   /** Goes to the next place that was found, or to the one before; behind the last is the first. @param {1|-1} by */
   go(by) {
     this.seek(this.box.value);
+    if (!this.app.run.isRead) this.waitToGo(by);
     const { length } = this.hits.steps;
     if (!length) return;
     const [behind, at] = this.rank();
     const index = by > 0 ? (behind + (at ? 1 : 0)) % length : (behind - 1 + length) % length;
     this.app.jump(this.hits.steps[index], this.hits.lines[index]);
+  }
+
+  /** Goes there when all was read, and not where the link leads. @private */
+  waitToGo(by) {
+    this.wanted = this.text.trim() && !this.fault ? by : 0;
+    if (this.wanted) this.app.address.stop();
   }
 
   /** How many lie before the present place, and whether one lies there. @private @returns {[number, boolean]} */
@@ -90,7 +118,8 @@ class Search {
   paint() {
     const [before, at] = this.rank(), { length } = this.hits.steps;
     const count = length.toLocaleString("en");
-    const found = !this.text.trim() ? "" : this.fault || (length === 0 ? "nothing found" : at
+    const none = this.app.run.isRead ? "nothing found" : "sought when all is read";
+    const found = !this.text.trim() ? "" : this.fault || (length === 0 ? none : at
       ? `${(before + 1).toLocaleString("en")} of ${count}` : `${count} found`);
     setText(byId("found"), found);
     for (const id of ["find-back", "find-on"]) byId(id).disabled = length === 0;

@@ -20,25 +20,12 @@ const LEAST_LETTERS = 12;
  */
 
 /** The sources of a run, by file and line. @param {Run} run @returns {Source[]} */
-function sourcesOf({ lines, steps }) {
-  const found = lines.texts.list.map((text) => (
-    { text, events: new Numbers(Uint32Array), others: new Numbers(Uint32Array) }));
-  for (let number = 1; number <= lines.sources.length; number++) {
-    const source = lines.sources.at(number - 1);
-    if (!source) continue;
-    const { events, others } = found[source], { first, last } = lines.at(number);
-    let own = 0;
-    for (let step = first; step <= last; step++) {
-      if (steps.lines.at(step) !== number) continue;
-      (steps.performs.at(step) ? events : others).push(step);
-      own += 1;
-    }
-    if (!own) others.push(last);
-  }
-  return found.slice(1).map(({ text, events, others }) => {
-    const { values, length } = events.length ? events : others;
-    return { text, ...placeOf(text), events: events.length, steps: values.slice(0, length) };
-  }).sort(inOrder);
+function sourcesOf({ lines }) {
+  return lines.texts.list.map((text, number) => ({ text, ...lines.ofSources[number] })).slice(1)
+    .map(({ text, events, others }) => {
+      const { values, length } = events.length ? events : others;
+      return { text, ...placeOf(text), events: events.length, steps: values.subarray(0, length) };
+    }).sort(inOrder);
 }
 
 /**
@@ -61,8 +48,6 @@ function inOrder(one, other) {
 class Sources {
   constructor(app) {
     this.app = app;
-    this.list = sourcesOf(app.run);
-    this.indexes = new Map(this.list.map(({ text }, index) => [text, index]));
     this.element = byId("sources");
     this.made = new Map();
     /** the row that Enter chooses, and that of the present step's line: -1 where it has no source */
@@ -70,6 +55,16 @@ class Sources {
     this.present = -1;
     this.top = 0;
     this.letters = LEAST_LETTERS;
+    /** @type {Source[]} */
+    this.list = [];
+    this.grow();
+  }
+
+  /** Lists the sources, where all of the run was read. */
+  grow() {
+    const { run } = this.app;
+    if (run.isRead) this.list = sourcesOf(run);
+    this.indexes = new Map(this.list.map(({ text }, index) => [text, index]));
     byId("sources-panel").hidden = !this.list.length;
     if (this.list.length) this.begin();
   }

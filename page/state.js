@@ -95,23 +95,58 @@ class Memory {
   }
 }
 
-/** Registers and memory at a place. What else a place has stands in the columns of places. */
-class State {
-  /** @param {Places} places @param {Uint32Array} registers at the start @param {Memory} memory */
-  constructor(places, registers, memory) {
+/** States of a run at some of its places, from which far ones are reached. */
+class Snapshots {
+  /** @param {Places} places */
+  constructor(places) {
     this.places = places;
-    /** Where it is: the number of the newest event that stands. */
-    this.number = 0;
-    this.registers = registers;
-    this.memory = memory;
     this.every = SNAPSHOT_EVERY;
-    /**
-     * The snapshots by the numbers of their places, in the order in which they were kept; about how many octets they
-     * take.
-     */
+    /** By the numbers of their places, in the order in which they were kept; about how many octets they take. */
     this.kept = new Map();
     this.octets = 0;
-    this.keep();
+  }
+
+  /** Whether one is to be kept at a place. */
+  isDue(number) {
+    return this.places.depth.at(number) % this.every === 0;
+  }
+
+  /** Keeps one. @param {State} state */
+  keep({ number, memory, registers }) {
+    this.octets += PAGE_OCTETS * memory.own.size + PAGE_PLACE * memory.pages.size + registers.byteLength;
+    this.kept.set(number, { registers: registers.slice(), pages: memory.share() });
+    while (this.octets > MOST_SNAPSHOTS && this.kept.size > 2) this.thin();
+  }
+
+  /** Drops each second one. @private */
+  thin() {
+    this.every *= 2;
+    const before = this.kept.size;
+    for (const number of [...this.kept.keys()]) if (!this.isDue(number)) this.kept.delete(number);
+    this.octets *= this.kept.size / before;
+  }
+}
+
+/** Registers and memory at a place. What else a place has stands in the columns of places. */
+class State {
+  /**
+   * @param {Places} places
+   * @param {Uint32Array} registers at the start
+   * @param {Memory} memory
+   * @param {Snapshots} snapshots
+   */
+  constructor(places, registers, memory, snapshots) {
+    Object.assign(this, { places, registers, memory, snapshots });
+    /** Where it is: the number of the newest event that stands. */
+    this.number = 0;
+  }
+
+  /** Another state of the same run, at the start: while this one reads on, the page shows that one. */
+  twin() {
+    const { base, size } = this.memory;
+    const twin = new State(this.places, this.registers.slice(), new Memory(base, size), this.snapshots);
+    twin.restoreBefore(0);
+    return twin;
   }
 
   get place() {
@@ -121,27 +156,6 @@ class State {
   /** A register's value by its name, without an array's. */
   at(name) {
     return this.registers[INDEX_OF.get(name)];
-  }
-
-  /** Whether a snapshot is to be kept at a place. */
-  isDue(number) {
-    return this.places.depth.at(number) % this.every === 0;
-  }
-
-  /** Keeps a snapshot at this place. */
-  keep() {
-    const { memory, registers } = this;
-    this.octets += PAGE_OCTETS * memory.own.size + PAGE_PLACE * memory.pages.size + registers.byteLength;
-    this.kept.set(this.number, { registers: registers.slice(), pages: memory.share() });
-    while (this.octets > MOST_SNAPSHOTS && this.kept.size > 2) this.thin();
-  }
-
-  /** Drops each second snapshot. @private */
-  thin() {
-    this.every *= 2;
-    const before = this.kept.size;
-    for (const number of [...this.kept.keys()]) if (!this.isDue(number)) this.kept.delete(number);
-    this.octets *= this.kept.size / before;
   }
 
   /**
@@ -178,7 +192,7 @@ class State {
   goTo(target) {
     const { depth } = this.places, common = lastCommon(this.places, this.number, target);
     const far = depth.at(this.number) + depth.at(target) - 2 * depth.at(common);
-    if (far > 2 * this.every) {
+    if (far > 2 * this.snapshots.every) {
       this.restoreBefore(target);
     } else {
       while (this.number !== common) this.backward();
@@ -188,9 +202,10 @@ class State {
 
   /** @private */
   restoreBefore(target) {
+    const { kept } = this.snapshots;
     let number = target;
-    while (!this.kept.has(number)) number = this.places.before.at(number);
-    const { registers, pages } = this.kept.get(number);
+    while (!kept.has(number)) number = this.places.before.at(number);
+    const { registers, pages } = kept.get(number);
     this.registers.set(registers);
     this.memory.restore(pages);
     this.number = number;

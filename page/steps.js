@@ -7,6 +7,7 @@ const STEP_KINDS = ["start", ...EVENT_KIND_LIST, "driver", "look", "back"];
 const KIND_NUMBER = new Map(STEP_KINDS.map((kind, number) => [kind, number]));
 /** How a step or a line can come out, by the number in its column. */
 const MARK_KINDS = ["", "refused", "dropped", "bad", "differs", "warning"];
+const WARNING = MARK_KINDS.indexOf("warning");
 
 /** So many warnings of a line are counted. */
 const MOST_WARNED = 255;
@@ -36,27 +37,42 @@ class Steps {
     this.ims = new Numbers(Uint32Array);
     /** How many events a reverse step took back, of those that took any. @type {Map<number, number>} */
     this.backs = new Map();
-    /** How many of them performed an event. */
-    this.performed = 0;
+    /** How many of them performed an event, and how many came out in each way, by the number of the mark. */
+    this.performing = 0;
+    this.outcomes = new Uint32Array(MARK_KINDS.length);
+    /** The bits that ICR or IMS ever had. */
+    this.seen = 0;
+    /** How many of them the page knows of: of a long run more may have been read. */
+    this.length = 0;
     /** Where the places of events are kept. @type {Places|null} */
     this.events = null;
   }
 
-  get length() {
+  /** How many were read. */
+  get count() {
     return this.kinds.length;
+  }
+
+  /** How many of those that the page knows of performed an event. */
+  get performed() {
+    return this.events.length - 1;
   }
 
   /** @param {State} state behind it @param {boolean} isWarned whether its line has warnings */
   add(kind, mark, line, performs, state, isWarned) {
+    const outcome = MARK_KINDS.indexOf(mark), icr = state.at("ICR"), ims = state.at("IMS");
     this.kinds.push(KIND_NUMBER.get(kind));
-    this.marks.push(MARK_KINDS.indexOf(mark));
+    this.marks.push(outcome);
     this.performs.push(performs ? 1 : 0);
     this.warned.push(isWarned ? 1 : 0);
-    if (performs) this.performed += 1;
+    if (performs) this.performing += 1;
+    if (outcome !== WARNING) this.outcomes[outcome] += 1;
+    if (isWarned) this.outcomes[WARNING] += 1;
+    this.seen |= icr | ims;
     this.lines.push(line);
     this.places.push(state.number);
-    this.icr.push(state.at("ICR"));
-    this.ims.push(state.at("IMS"));
+    this.icr.push(icr);
+    this.ims.push(ims);
   }
 
   /** @returns {Step} */
@@ -76,10 +92,9 @@ class Steps {
     return MARK_KINDS[this.marks.at(index)];
   }
 
-  /** How many came out so. */
+  /** How many came out so; of warnings, how many have any. */
   marked(mark) {
-    const [column, value] = mark === "warning" ? [this.warned, 1] : [this.marks, MARK_KINDS.indexOf(mark)];
-    return countOf(column.values.subarray(0, column.length), value);
+    return this.outcomes[MARK_KINDS.indexOf(mark)];
   }
 
   /** Whether a step lies on a branch that was taken back. */
@@ -115,11 +130,14 @@ class Lines {
     /** The first of its steps, or the one at which it stands; and the last. */
     this.firsts = new Numbers(Uint32Array);
     this.lasts = new Numbers(Uint32Array);
-  }
-
-  /** How many were read whole. */
-  get count() {
-    return this.lasts.length;
+    /**
+     * By the number of a source, the steps of its lines that are events, and the others.
+     * @type {{events: Numbers, others: Numbers}[]}
+     */
+    this.ofSources = [];
+    /** How many lines of the script the page knows of, and how many of them were read whole. */
+    this.length = 0;
+    this.count = 0;
   }
 
   /** Where the record of the next line is, which begins. */
@@ -138,6 +156,19 @@ class Lines {
     if (time !== undefined) this.hasTimes = true;
     this.firsts.push(first);
     this.lasts.push(last);
+  }
+
+  /**
+   * Notes which steps the newest line has, where it says where it comes from.
+   * @param {Steps} steps
+   * @param {number} first
+   */
+  sourced(steps, first) {
+    const source = this.sources.at(this.sources.length - 1), last = steps.count - 1;
+    if (!source) return;
+    const own = this.ofSources[source] ??= { events: new Numbers(Uint32Array, 4), others: new Numbers(Uint32Array, 4) };
+    for (let step = first; step <= last; step++) (steps.performs.at(step) ? own.events : own.others).push(step);
+    if (first > last) own.others.push(last);
   }
 
   /** The place of a line's record. */

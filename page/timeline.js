@@ -79,48 +79,60 @@ function has({ values, length }, value) {
 /** How often a value stands in an array. */
 function countOf(values, wanted) {
   let count = 0;
-  for (const value of values) if (value === wanted) count += 1;
+  for (let at = 0; at < values.length; at++) if (values[at] === wanted) count += 1;
   return count;
 }
 
 class Timeline {
   constructor(app) {
     this.app = app;
-    const { steps } = app.run;
     this.axes = new Axes(app.run);
-    this.view = new View(steps, this.axes.steps);
-    this.whole = new WholeRun(app.run);
-    /** the reverse steps that took something back, and the steps behind which they led */
-    this.backs = Uint32Array.from(steps.backs.keys());
-    this.targets = this.backs.map((index) => steps.events.step.at(steps.places.at(index)));
-    this.hasBranches = has(steps.kinds, KIND_NUMBER.get("back"));
+    this.view = new View(app.run.steps, this.axes.steps);
     this.overview = byId("overview");
     this.analyser = byId("analyser");
     this.slider = byId("slider");
-    this.slider.max = String(steps.length - 1);
     this.slider.addEventListener("input", () => app.goTo(Number(this.slider.value)));
     for (const [id, go] of Object.entries({
       "to-start": () => app.jump(0), "one-back": () => app.goTo(app.step - 1), "one-on": () => app.goTo(app.step + 1),
-      "to-end": () => app.jump(Infinity), play: () => this.play(!this.timer),
+      "to-end": () => app.toEnd(), play: () => this.play(!this.timer),
       narrower: () => this.zoom(1 / ZOOM_FACTOR), wider: () => this.zoom(ZOOM_FACTOR), whole: () => this.zoom(0),
     })) byId(id).addEventListener("click", go);
-    setHidden(byId("by-time"), !this.axes.byTime);
     byId("by-time").addEventListener("click", () => this.turn());
     this.pointer = new Pointer(this);
+    this.measure();
+  }
+
+  /** Takes what was read since. */
+  grow() {
+    this.axes = new Axes(this.app.run);
+    this.view.grow(this.axes.steps);
+    this.measure();
+  }
+
+  /** All that goes by how long the run is. @private */
+  measure() {
+    const { run, run: { steps } } = this.app;
+    this.whole = new WholeRun(run);
+    /** the reverse steps that took something back, and the steps behind which they led */
+    this.backs = Uint32Array.from(steps.backs.keys()).filter((index) => index < steps.length);
+    this.targets = this.backs.map((index) => steps.events.step.at(steps.places.at(index)));
+    this.hasBranches = has(steps.kinds, KIND_NUMBER.get("back"));
+    this.slider.max = String(steps.length - 1);
+    setHidden(byId("by-time"), !this.axes.byTime);
     this.legend();
   }
 
   /** @private */
   legend() {
     const { run, two, run: { steps, steps: { kinds } } } = this.app;
-    byId("kinds").replaceChildren(
+    become(byId("kinds"), [
       ...Object.entries(KINDS).filter(([kind]) => has(kinds, KIND_NUMBER.get(kind)) && kind !== "start")
         .map(([kind, [letter, words]]) => make("li", {}, make("span", { class: `tick kind-${kind}` }, letter), words)),
       ...Object.entries(MARKS).filter(([mark]) => steps.marked(mark) > 0).map(([mark, [sign, words]]) =>
         make("li", {}, make("span", { class: `tick mark-${mark}` }, sign), this.markButton(mark, words))),
       ...(two ? [make("li", {}, this.countButton(UNLIKE, `not as in ${two.other(this.app.side)}`,
         countOf(run.unlike, 1)))] : []),
-      make("li", {}, make("span", { class: "masked", "aria-hidden": "true" }), "under a cause: IMS lets it through"));
+      make("li", {}, make("span", { class: "masked", "aria-hidden": "true" }), "under a cause: IMS lets it through")]);
   }
 
   /** How many steps came out so; they are sought by it. @private */
@@ -177,11 +189,13 @@ class Timeline {
 
   /** @private */
   playOn() {
-    if (this.app.step >= this.app.run.steps.length - 1) {
+    const { step, run } = this.app, isLast = step >= run.steps.length - 1;
+    if (isLast && run.isRead) {
       this.play(false);
       return;
     }
-    this.app.goTo(this.app.step + 1, true);
+    // (at the end of what was read so far it waits for more)
+    if (!isLast) this.app.goTo(step + 1, true);
     this.timer = setTimeout(() => this.playOn(), 1000 / Number(byId("speed").value));
   }
 
@@ -221,7 +235,8 @@ class Timeline {
   /** The whole run as a picture, which is drawn once for each width, scheme and search. @private */
   wholeRun(width, height) {
     const { run, search } = this.app, { axis } = this.view;
-    const key = `${axis.isTime} ${width} ${palette.version} ${window.devicePixelRatio} ${search.version}`;
+    const key = [axis.isTime, run.steps.length, width, height, palette.version, window.devicePixelRatio,
+      search.version].join();
     if (this.pictureKey === key) return this.picture;
     this.pictureKey = key;
     this.picture = new OffscreenCanvas(1, 1);

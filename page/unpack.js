@@ -3,9 +3,7 @@
 const PACKED_TYPE = "application/gzip";
 const SIXTY_FOUR = "ABCDEFGHIJKLMNOPQRSTUVWXYZabcdefghijklmnopqrstuvwxyz0123456789+/";
 /** So many octets are given to be unpacked at once. */
-const UNPACKED_AT_ONCE = 2 ** 17;
-/** Every so many milliseconds the page says how far it is. */
-const TOLD_EVERY = 200;
+const UNPACKED_AT_ONCE = 2 ** 15;
 
 /** The octets that letters of base64 say. @param {string} text */
 function octetsOfLetters(text) {
@@ -28,28 +26,26 @@ function octetsOfLetters(text) {
 
 /** Octets that come piece by piece, as parts of whole lines. A piece is not copied, but for the lines at its ends. */
 class Parts {
-  /** @param {(part: Uint8Array) => void} take which may keep the octets */
-  constructor(take) {
-    this.take = take;
+  constructor() {
     /** What came behind the last newline. */
     this.begun = [];
   }
 
-  /** Takes a piece. @param {Uint8Array} piece */
+  /** Takes a piece. @param {Uint8Array} piece @returns {Uint8Array[]} the parts that are whole with it */
   push(piece) {
     const first = piece.indexOf(NEWLINE) + 1, last = piece.lastIndexOf(NEWLINE) + 1, { begun } = this;
     if (first === 0) {
       begun.push(piece);
-      return;
+      return [];
     }
     this.begun = last < piece.length ? [piece.slice(last)] : [];
-    if (begun.length) this.take(joined([...begun, piece.subarray(0, first)]));
-    const from = begun.length ? first : 0;
-    if (from < last) this.take(piece.subarray(from, last));
+    const from = begun.length ? first : 0, whole = from < last ? [piece.subarray(from, last)] : [];
+    return begun.length ? [joined([...begun, piece.subarray(0, first)]), ...whole] : whole;
   }
 
+  /** What is left. @returns {Uint8Array[]} */
   end() {
-    if (this.begun.length) this.take(joined(this.begun));
+    return this.begun.length ? [joined(this.begun)] : [];
   }
 }
 
@@ -65,32 +61,39 @@ function joined(pieces) {
 }
 
 /**
- * Unpacks a record's text, and gives each part of it as soon as it is there.
- * @param {string} letters
- * @param {(part: Uint8Array) => void} take
- * @param {(share: number) => void} tell how much of it is unpacked
+ * Unpacks a record, and gives each part of it as soon as it is there.
+ * @param {AsyncIterable<string>} letters
+ * @returns {AsyncIterable<Uint8Array>}
  */
-async function unpack(letters, take, tell) {
-  const octets = octetsOfLetters(letters), parts = new Parts(take);
-  const { readable, writable } = new DecompressionStream("gzip"), writer = writable.getWriter();
-  let shown = performance.now();
-  const write = async () => {
-    for (let at = 0; at < octets.length; at += UNPACKED_AT_ONCE) {
-      await writer.write(octets.subarray(at, at + UNPACKED_AT_ONCE));
-      if (performance.now() - shown < TOLD_EVERY) continue;
-      tell(at / octets.length);
-      await new Promise((done) => setTimeout(done, 0));
-      shown = performance.now();
-    }
-    await writer.close();
-  };
-  const read = async () => {
-    for (const reader = readable.getReader(); ;) {
+async function* unpacked(letters) {
+  const { readable, writable } = new DecompressionStream("gzip"), reader = readable.getReader(), parts = new Parts();
+  pack(letters, writable.getWriter());
+  try {
+    for (;;) {
       const { done, value } = await reader.read();
       if (done) break;
-      parts.push(value);
+      yield* parts.push(value);
     }
-    parts.end();
-  };
-  await Promise.all([write(), read()]);
+    yield* parts.end();
+  } catch (fault) {
+    throw new Broken(`it was packed, and can’t be unpacked (${wordsOfFault(fault)})`);
+  } finally {
+    // (where no more is wanted, no more is unpacked)
+    reader.cancel().catch(() => {});
+  }
+}
+
+/** Gives letters to be unpacked, so many at once as are read. What is wrong with them is told where they are read. */
+async function pack(letters, writer) {
+  try {
+    for await (const text of letters) {
+      const octets = octetsOfLetters(text);
+      for (let at = 0; at < octets.length; at += UNPACKED_AT_ONCE) {
+        await writer.write(octets.subarray(at, at + UNPACKED_AT_ONCE));
+      }
+    }
+    await writer.close();
+  } catch (fault) {
+    writer.abort(fault).catch(() => {});
+  }
 }

@@ -49,6 +49,12 @@ class View {
     this.step = -1;
   }
 
+  /** Goes on along an axis that has more steps; where all of them were shown, these are too. */
+  grow(axis) {
+    if (this.count >= this.axis.length) this.wanted = 0;
+    this.axis = axis;
+  }
+
   /** Where a step begins, in points. */
   x(step) {
     return (this.axis.at(step) - this.first) * this.cell;
@@ -110,7 +116,7 @@ class View {
 
   /** All that a picture of it goes by. */
   key() {
-    return `${this.axis.isTime} ${this.first} ${this.cell} ${this.width}`;
+    return `${this.axis.isTime} ${this.axis.length} ${this.first} ${this.cell} ${this.width}`;
   }
 }
 

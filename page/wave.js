@@ -67,11 +67,23 @@ class Wave {
   constructor(app, timeline) {
     this.app = app;
     this.timeline = timeline;
-    const { steps, places } = app.run;
-    let seen = 0;
-    for (let step = 0; step < steps.length; step++) seen |= steps.icr.at(step) | steps.ims.at(step);
-    this.most = 1;
-    for (let number = 0; number < places.length; number++) this.most = Math.max(this.most, places.frames.at(number));
+    this.makeRows();
+    this.makeNames();
+  }
+
+  /** Takes what was read since: another cause, or more frames that wait. */
+  grow() {
+    const { steps: { seen }, places: { mostFrames } } = this.app.run, isOther = seen !== this.seen;
+    if (isOther || mostFrames > this.most) this.makeRows();
+    if (isOther) this.makeNames();
+    this.pictureKey = "";
+  }
+
+  /** @private */
+  makeRows() {
+    const { steps, places } = this.app.run, { seen } = steps;
+    this.seen = seen;
+    this.most = Math.max(1, places.mostFrames);
     const is = (signals, bit) => (signals & bit ? 1 : 0);
     const signal = (bit) => ({
       at: (step) => is(places.signals.at(steps.places.at(step)), bit),
@@ -87,7 +99,6 @@ class Wave {
       },
       ...FIELDS.ICR.filter(([, high]) => (seen >>> high) & 1).map(([name, bit]) => this.cause(name, bit)),
     ];
-    this.makeNames();
   }
 
   /** @private */

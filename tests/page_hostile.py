@@ -54,7 +54,7 @@ const texts = [document.body.innerText, ...[...document.querySelectorAll('*')].f
   ['title', 'aria-label', 'aria-valuetext'].map((name) => one.getAttribute(name) ?? ''))];
 const marks = texts.join('').match(/[\\p{Cf}\\p{Zl}\\p{Zp}\\u0080-\\u009F\\u3164\\uFFA0]/gu) ?? [];
 return { unseen: [...new Set(marks)], broken: broken.hidden ? '' : broken.textContent, run: !run.hidden, steps, ran: window.ran ?? null,
-  scripts: document.scripts.length, seen: document.body.innerText.trim().length };
+  scripts: document.querySelectorAll('script:not(.record)').length, seen: document.body.innerText.trim().length };
 """
 
 
@@ -76,7 +76,7 @@ def steps_before(cut: bytes) -> int:
 def faults_of(shown: dict, console: list[str], must_be_broken: bool) -> list[str]:
     faults = [f"on the console: {message}" for message in console]
     faults += [f"U+{ord(mark):04X} can't be seen" for mark in shown["unseen"] if ord(mark) not in JOINERS]
-    if shown["ran"] is not None or shown["scripts"] != 2:
+    if shown["ran"] is not None or shown["scripts"] != 1:
         faults.append("a script of the record ran")
     if not shown["broken"] and not shown["run"]:
         faults.append("it shows nothing")

@@ -11,9 +11,10 @@ from tally import CRATES, TOP, run
 BUDGET = 16_777_216
 # in which the record of the longest run is made, and the page of it, beside much other work
 SECONDS = 600
-# whether the page shows a run, or what is wrong, within a second
+# whether the page shows all of a run, or what is wrong, within a second
 READY = """
-const is = () => ['run', 'broken'].some((id) => !document.getElementById(id).hidden);
+const is = () => document.getElementById('reading').hidden
+  && ['run', 'broken'].some((id) => !document.getElementById(id).hidden);
 return new Promise((done) => {
   let left = 20;
   const ask = () => (is() || left-- === 0 ? done(is()) : setTimeout(ask, 50));

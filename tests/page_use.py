@@ -357,8 +357,8 @@ def long_run(tally: Tally, browser, room: Path, events: int) -> None:
     opened = spent(browser, "TaskDuration")
     browser.command("HeapProfiler.collectGarbage")
     heap = spent(browser, "JSHeapUsedSize")
-    print(f"{len(lines):,} events: a page of {page.stat().st_size / 1e6:.0f} MB opens in {opened:.1f} s, and its objects "
-          f"take {heap / 1e6:.0f} MB")
+    print(f"{len(lines):,} events: a page of {page.stat().st_size / 1e6:.0f} MB is read in {opened:.1f} s, and its "
+          f"objects take {heap / 1e6:.0f} MB")
     each = heap / len(lines)
     tally.check("a long run takes no more memory", [] if each <= OBJECT_OCTETS else [f"{each:.0f} octets an event"])
     tally.check("a long run opens", [] if browser.run(AT) == [len(lines)] * 2 else [f"it is at {browser.run(AT)}"])

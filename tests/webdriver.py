@@ -31,9 +31,10 @@ def install() -> bool:
 
 
 class Browser:
-    """A browser with one window of a size in points; dark or light."""
+    """A browser with one window of a size in points; dark or light. If it waits for a page, that is loaded when `open`
+    returns."""
 
-    def __init__(self, width: int = 1280, height: int = 900, dark: bool = False) -> None:
+    def __init__(self, width: int = 1280, height: int = 900, dark: bool = False, waits: bool = True) -> None:
         self.room = tempfile.mkdtemp(prefix="browser")
         with socket.socket() as free:
             free.bind(("127.0.0.1", 0))
@@ -42,7 +43,8 @@ class Browser:
                                        stderr=subprocess.DEVNULL)
         words = ["--headless=new", "--no-sandbox", "--disable-gpu", "--disable-dev-shm-usage", "--hide-scrollbars",
                  f"--user-data-dir={self.room}", f"--window-size={width},{height}", "--force-device-scale-factor=1"]
-        wanted = {"alwaysMatch": {"goog:chromeOptions": {"args": words, "binary": shutil.which("chromium")},
+        wanted = {"alwaysMatch": {"pageLoadStrategy": "normal" if waits else "none",
+                                  "goog:chromeOptions": {"args": words, "binary": shutil.which("chromium")},
                                   "goog:loggingPrefs": {"browser": "ALL"}, "timeouts": {"script": 60000}}}
         self.session = None
         self.wait_for_driver()
