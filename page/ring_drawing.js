@@ -5,6 +5,9 @@
 const MOST_ARROWS = 6;
 const DRAWING = { width: 480, height: 240, middle: 120, outer: 88, inner: 56, track: 94, apart: 4 };
 
+/** Half of how wide a letter of a hand's name is. */
+const HALF_LETTER = 3.4;
+
 /** A point on the circle; cell 0 begins at the top, and they go clockwise. */
 function onCircle(turn, radius) {
   const angle = 2 * Math.PI * turn - Math.PI / 2;
@@ -129,7 +132,10 @@ function cell(one, from, to, isDone, isChanged) {
 /** A hand of the circle, from its middle to a cell. */
 function hand(name, words, turn) {
   const [x, y] = onCircle(turn, DRAWING.inner - 3);
-  const [labelX, labelY] = onCircle(turn, DRAWING.inner - 24);
+  const [besideX, labelY] = onCircle(turn, DRAWING.inner - 24);
+  // (a long one stays within the circle, so that no cell's number is hidden)
+  const most = Math.max(0, DRAWING.inner - 4 - HALF_LETTER * words.length);
+  const labelX = Math.max(DRAWING.middle - most, Math.min(DRAWING.middle + most, besideX));
   return [
     draw("line", { x1: DRAWING.middle, y1: DRAWING.middle, x2: x.toFixed(1), y2: y.toFixed(1),
       class: `hand-line ${name}` }),
