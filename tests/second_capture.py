@@ -166,3 +166,65 @@ def told(file: bytes) -> str:
     if reader.fault:
         lines.append(reader.fault + "\n")
     return "".join(lines) + "end\n"
+
+
+# ---- cooked packets, as the pages of the link types LINUX_SLL and LINUX_SLL2 have them
+
+# by the link type: the length of a header, and where the packet type, the kind of device, the length of the address, the
+# address and the protocol lie in it, with how many octets each has
+COOKED = {
+    113: (16, {"way": (0, 2), "device": (2, 2), "size": (4, 2), "address": (6, 6), "protocol": (14, 2)}),
+    276: (20, {"way": (10, 1), "device": (8, 2), "size": (11, 1), "address": (12, 6), "protocol": (0, 2)}),
+}
+ETHERNET_DEVICE, NO_GROUP, NOBODY = 1, bytes.fromhex("010000000000"), bytes.fromhex("020000000000")
+
+
+def uncooked(file: bytes, own: bytes) -> list[tuple[int, bytes, int]] | None:
+    """The frames of a classic capture of cooked packets, up to the first record that is not whole; none of another file."""
+    if file[:4] not in CLASSIC or len(file) < 24:
+        return None
+    order, unit = CLASSIC[file[:4]]
+    (link,) = struct.unpack_from(order + "I", file, 20)
+    if link not in COOKED:
+        return None
+    at, frames = 24, []
+    while at + 16 <= len(file):
+        seconds, part, captured, original = struct.unpack_from(order + "IIII", file, at)
+        at += 16
+        packet = file[at : at + captured]
+        if len(packet) < captured:
+            break
+        at += captured
+        if front := front_of(packet, original, own, *COOKED[link]):
+            behind = packet[COOKED[link][0] :]
+            frames.append((14 + original - COOKED[link][0], front + behind, seconds * 10**9 + part * unit))
+    return frames
+
+
+def front_of(packet: bytes, original: int, own: bytes, size: int, fields: dict) -> bytes | None:
+    """The Ethernet header of the frame that a packet was, if it was one."""
+    if min(len(packet), original) < size:
+        return None
+    said = {name: packet[at : at + count] for name, (at, count) in fields.items()}
+    way, device, length, protocol = (int.from_bytes(said[name]) for name in ("way", "device", "size", "protocol"))
+    if device != ETHERNET_DEVICE or length != len(own):
+        return None
+    behind, type_or_length = packet[size:], protocol
+    if protocol < 1536:
+        type_or_length = original - size
+        if protocol not in (1, 4) or type_or_length >= 1536:
+            return None
+    return went_to(way, protocol, behind, own) + said["address"] + struct.pack(">H", type_or_length)
+
+
+def went_to(way: int, protocol: int, behind: bytes, own: bytes) -> bytes:
+    """The destination: own, all, a group by the address of IPv4 or IPv6, or one that is not known."""
+    if way < 2:
+        return b"\xff" * 6 if way else own
+    if way > 2:
+        return NOBODY
+    if protocol == 0x0800 and len(behind) >= 20:
+        return b"\x01\x00\x5e" + bytes([behind[17] & 0x7F]) + behind[18:20]
+    if protocol == 0x86DD and len(behind) >= 40:
+        return b"\x33\x33" + behind[36:40]
+    return NO_GROUP

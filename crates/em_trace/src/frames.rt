@@ -5,7 +5,7 @@ use crate::arriving::{Arrival, Why};
 use crate::text::write_text;
 use anyhow::{Result, bail};
 use em_frames::{LEAST_FRAME, is_unpadded, write_arrival};
-use em_pcap::{Capture, Packet};
+use em_pcap::{Capture, CaptureError, Packet};
 use std::alloc::Global;
 use std::io::Write;
 
@@ -118,8 +118,21 @@ impl<'a> Frames<'a> {
     }
 }
 
+/// What a capture has.
+#[derive(Clone, Copy, PartialEq, Eq, Debug)]
+pub enum Kind {
+    Frames,
+    /// Packets that Linux cooked, which were made frames: offsets are no more those of its file.
+    Cooked,
+}
+
 /// The frames of the capture of this name, each of which can arrive.
-pub fn packets_of<'a>(alloc: Global, name: &str, octets: &'a [u8]) -> Result<Vec<Packet<'a>>> {
+pub fn packets_of<'a>(
+    alloc: Global,
+    name: &str,
+    octets: &'a [u8],
+    kind: Kind,
+) -> Result<Vec<Packet<'a>>> {
     let mut packets = Vec::new(alloc);
     for given in Capture::new(alloc, octets) {
         match given {
@@ -131,6 +144,9 @@ pub fn packets_of<'a>(alloc: Global, name: &str, octets: &'a [u8]) -> Result<Vec
                     );
                 }
                 packets.push(packet)?;
+            }
+            Err(CaptureError::Fault(fault)) if kind == Kind::Cooked => {
+                bail!("{name}: {}", fault.kind)
             }
             Err(error) => bail!("{name}: {error}"),
         }

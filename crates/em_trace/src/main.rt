@@ -28,8 +28,9 @@ mod words;
 use crate::arriving::{Arrivals, Seen, arrivals_in};
 use crate::done::Done;
 use crate::faults::{is_gzip, open_fault, packed, read_fault};
-use crate::frames::{Frames, packets_of};
+use crate::frames::{Frames, Kind, packets_of};
 use crate::head::Head;
+use crate::shown::Address;
 use crate::survey::Survey;
 use crate::text::write_text;
 use crate::translating::{Wanted, translate};
@@ -37,6 +38,7 @@ use crate::words::{WordsRefused, parse, wanted};
 use anyhow::{Context, Result, bail};
 use clap::error::ErrorKind;
 use clap::{ArgMatches, Error};
+use em_cooked::uncooked;
 use std::env;
 use std::fs::File;
 use std::io::{self, BufRead, BufReader, BufWriter, Read, Write};
@@ -59,6 +61,9 @@ const FAILED: u8 = 3;
 const LOG: &str = "log";
 
 const CAPTURE: &str = "capture";
+
+/// The address that the script's machine has, where the log does not say it.
+const USUAL_ADDRESS: Address = [0x52, 0x54, 0x00, 0x12, 0x34, 0x56];
 
 /// How many octets are read or written at once: each may be a call of the system.
 const BUFFER: usize = 65_536;
@@ -151,13 +156,8 @@ fn with_reader<R: Files + Print + Eprint + AllocGlobal, B: BufRead + Drop>(
     }
 }
 
-/// Reads the capture and the whole log, finds where the frames arrive, and turns the log into a script.
-fn with_capture<R: Files + Print + Eprint + AllocGlobal, B: BufRead>(
-    rt: &R,
-    wanted: &Wanted<'_>,
-    name: &str,
-    reader: &mut B,
-) -> Result<u8> {
+/// The octets of the capture.
+fn capture_of<R: Files + AllocGlobal>(rt: &R, name: &str) -> Result<Vec<u8>> {
     let mut octets = Vec::new(rt.alloc());
     let mut file = match File::open(rt, name) {
         Ok(file) => file,
@@ -169,13 +169,34 @@ fn with_capture<R: Files + Print + Eprint + AllocGlobal, B: BufRead>(
     if is_gzip(octets.as_slice()) {
         return Err(packed(name));
     }
-    let packets = packets_of(rt.alloc(), name, octets.as_slice())?;
+    Ok(octets)
+}
+
+/// A capture of frames: of Linux's cooked packets the frames that they were, where the adapter has this address.
+fn frames_of<R: AllocGlobal>(rt: &R, octets: Vec<u8>, own: [u8; 6]) -> Result<(Vec<u8>, Kind)> {
+    match uncooked(rt.alloc(), octets.as_slice(), own)? {
+        Some(frames) => Ok((frames, Kind::Cooked)),
+        None => Ok((octets, Kind::Frames)),
+    }
+}
+
+/// Reads the capture and the whole log, finds where the frames arrive, and turns the log into a script.
+fn with_capture<R: Files + Print + Eprint + AllocGlobal, B: BufRead>(
+    rt: &R,
+    wanted: &Wanted<'_>,
+    name: &str,
+    reader: &mut B,
+) -> Result<u8> {
+    let octets = capture_of(rt, name)?;
     let mut log = Vec::new(rt.alloc());
     reader
         .read_to_end(&mut log)
         .context("the log cannot be read")?;
     let survey = Survey::new(rt.alloc(), wanted.log(), log.as_slice())?;
     let address = wanted.address.or(survey.address());
+    let own = address.unwrap_or(USUAL_ADDRESS);
+    let (octets, kind) = frames_of(rt, octets, own)?;
+    let packets = packets_of(rt.alloc(), name, octets.as_slice(), kind)?;
     let Arrivals { arrivals, seen } = arrivals_in(
         rt.alloc(),
         &survey,
