@@ -18,7 +18,8 @@
 --   1  Stages: what holds between events; StepsBack: steps back over whole calls
 --   2  DrivenWorld: turns and accesses in a world as a driver keeps it
 --   3  GivenBack: a descriptor goes back; HandedOver: a packet goes in; EventsOfOthers; OtherCalls: no packets
---   4  RxBatchOrder on GivenBack; TxBatchOrder on HandedOver; Spans on EventsOfOthers: calls and events in turn
+--   4  RxBatchOrder on GivenBack; TxBatchOrder on HandedOver; Spans on EventsOfOthers: calls and events in turn, for
+--      the law `packets_in_order`
 -- bring_up: a start leads from any device to a state as the driver keeps it.
 --   1  DeviceOff, MemorySize, HeldRegisters: what a reset leaves, and what was written stays
 --   2  RxRingMade: the device is off; 3 TxRingMade: it receives and does not send yet

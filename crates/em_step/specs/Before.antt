@@ -1,6 +1,6 @@
 -- What a record tells of the state before the event, without being put back.
 use Rattle.std.specs.Prelude.{◌≡◌, ℕ, ◌+◌, ◌-◌, Bool, false, if◌then◌else◌, List, [], ◌∷◌, length, unwrap_or}
-use Rattle.std.specs.Prelude.{◌≤◌, IfSome, Option, None}
+use Rattle.std.specs.Prelude.{◌≤◌, IfSome, Option, None, Some}
 use Rattle.em_mem.specs.Extent as extent
 use Rattle.em_mem.specs.Extent.{SameUpTo}
 use Rattle.em_mem.specs.declared.needs.Range.{Range}
@@ -12,7 +12,7 @@ use Rattle.em_regs.specs.declared.reg.Reg.TheVariants.{Ics, Imc, Rdh, Tdh}
 use Rattle.em_regs.specs.declared.table.Kind.{Kind}
 use Rattle.em_regs.specs.declared.table.Kind.TheVariants.{Interrupt, Counter, EepromPins, PhyCommand, Status}
 use Rattle.em_regs.specs.declared.table.Kind.TheVariants.{Uncounted}
-use Rattle.em_regs.specs.Table.{row_of, offset_of}
+use Rattle.em_regs.specs.Table.{IsReg, row_of, offset_of}
 use Rattle.em_regs.specs.RegFile as registers
 use Rattle.em_latch.specs.Latches as latches
 use Rattle.em_latch.specs.Latches.{Growth}
@@ -20,6 +20,7 @@ use Rattle.em_rx.specs.Before as rx
 use Rattle.em_tx.specs.Before as tx
 use Rattle.em_tx.specs.Needs as tx_needs
 use Rattle.em_tx.specs.Undo.{gathered_of, last_of}
+use Rattle.em_step.specs.Access.{gives}
 use Rattle.em_step.specs.Cells.{Cells, shows}
 use Rattle.em_step.specs.State.{State}
 use Rattle.em_step.specs.Undo.{Changed, Fits, Undo, undo, word}
@@ -109,6 +110,15 @@ register_before_by kind r reg now = stored_before r.effect reg now
 
 abbrev pub register_before : Undo → Reg → ℕ → ℕ
 register_before r reg now = register_before_by (row_of reg).kind r reg now
+
+-- a look at a register gave before the event what it gives after it
+abbrev pub LeavesRegister : Undo → Reg → Type 0
+LeavesRegister r reg = (c : Cells) → Fits c r → gives (shows (undo c r)) reg ≡ gives (shows c) reg
+
+-- it did so of each register from an offset on, but of one that is known
+abbrev pub LeavesFrom : Undo → ℕ → Option Reg → Type 0
+LeavesFrom r from known =
+    (reg : Reg) → IsReg reg → from ≤ offset_of reg → (known ≡ Some reg → ⊥) → LeavesRegister r reg
 
 -- of a window of memory from address a on
 abbrev pub octets_before : Changed → ℕ → List ℕ → List ℕ

@@ -1,13 +1,13 @@
 //! What a record tells of the state before its event, without being put back: who changed something last is found by
 //! asking each record of a journal, the newest first. A record that has nothing to do with the question takes a few
 //! instructions.
-ghost use Rattle.std.specs.Prelude.{◌≡◌, ◌≤◌, OnOk, length, min, unwrap_or};
+ghost use Rattle.std.specs.Prelude.{◌≡◌, ◌≤◌, IfSome, IsSome, IsTrue, OnOk, [], length, min, true, unwrap_or};
 ghost use Rattle.em_regs.specs.Table.{IsReg, offset_of};
 ghost use Rattle.em_regs.specs.RegFile as registers;
 ghost use Rattle.em_regs.specs.RegFile.{IsStored};
-ghost use Rattle.em_latch.specs.Latches.{IsLatched};
+ghost use Rattle.em_latch.specs.Latches.{IsLatched, is_latched};
 ghost use Rattle.em_step.specs.Access.{gives};
-ghost use Rattle.em_step.specs.Before.{LeavesUpTo, PutsBack, PutsBackGathered, PutsBackWindow, TakesOffWire};
+ghost use Rattle.em_step.specs.Before.{LeavesFrom, LeavesUpTo, PutsBack, PutsBackGathered, PutsBackWindow, TakesOffWire};
 ghost use Rattle.em_step.specs.Before.{WroteOnly, frames_before, gathered_before, has_sent, written};
 ghost use Rattle.em_step.specs.Before.{latched_before, link_before, next_octet, octets_before, register_before};
 ghost use Rattle.em_step.specs.Before.{mdic_before, pins_before, status_before, stored_before};
@@ -17,9 +17,14 @@ use crate::adapter::status_of;
 use crate::packed::{address_in, piece_of, place_in};
 use crate::undo::{Effect, HEAD_OCTETS, Record};
 use em_mem::{OldOctets, Range, Saved, lay_both_over, next_in};
-use em_regs::{Kind, Reg};
+use em_regs::{Kind, Reg, RegUndo};
 use std::alloc::AllocError;
 use std::marker::Model;
+
+/// Each register of the latches, and the head of each ring, lies below this offset; each register below the other one.
+const LATCHED_END: u32 = 0x05000;
+
+const REGISTERS_END: u32 = 0x06000;
 
 /// The record of an event in the past, with the octets that were saved for it.
 #[derive(Drop)]
@@ -67,6 +72,26 @@ impl<'a> Past<'a> {
         ensures before { PutsBack self.now (λ s. gives s reg) now result }
     {
         self.register_told(reg, now)
+    }
+
+    /// An offset from which on the event left each register as it was, but for one that is known: 0 where it left them all.
+    /// So who asks for all that an event changed looks at few registers, or at none.
+    #[inline(always)]
+    pub fn reach(&self, known: Option<Reg>) -> u32
+        requires { IfSome known IsStored }
+        ensures { LeavesFrom self.now result known }
+    {
+        match &self.record.effect {
+            Effect::Nothing | Effect::Octets { .. } | Effect::Arrival(..) => self.latched_end(),
+            Effect::RxStep { .. } => LATCHED_END,
+            Effect::TxStep(..) => LATCHED_END,
+            Effect::Register(old) if is_of(old, known) => self.latched_end(),
+            Effect::Register(_)
+            | Effect::Link(_)
+            | Effect::Pins(..)
+            | Effect::Phy(_)
+            | Effect::Reset(_) => REGISTERS_END,
+        }
     }
 
     /// Makes a window of guest memory, the octets from `addr` on, what it was before the event.
@@ -145,6 +170,18 @@ impl<'a> Past<'a> {
             now.saturating_sub(1)
         } else {
             now
+        }
+    }
+
+    /// An offset from which on the event changed no interrupt register and no counter.
+    #[inline(always)]
+    fn latched_end(&self) -> u32
+        ensures { (reg : Reg) → result ≤ offset_of reg → IsTrue (is_latched reg) → self.now.latches ≡ [] }
+    {
+        if self.record.latches.is_none() {
+            0
+        } else {
+            LATCHED_END
         }
     }
 
@@ -373,5 +410,17 @@ fn head_before(reg: Reg, moved: Reg, head: u32, now: u32) -> u32
         head
     } else {
         now
+    }
+}
+
+/// Whether the old word is a known register's.
+#[inline(always)]
+fn is_of(old: &RegUndo, known: Option<Reg>) -> bool
+    requires { IfSome known IsStored }
+    ensures { result ≡ true → IfSome known (λ reg. offset_of reg ≡ old.now.at) × IsSome known }
+{
+    match known {
+        Some(reg) => old.old_of(reg).is_some(),
+        None => false,
     }
 }

@@ -1,6 +1,7 @@
 //! The registers that one event changed.
 ghost use Rattle.std.specs.Prelude.{◌≡◌, ◌-◌, ◌<◌, ◌≤◌, true, IfSome, IfNone, length};
 ghost use Rattle.em_regs.specs.Table.{IsReg, offset_of};
+ghost use Rattle.em_regs.specs.RegFile.{IsStored};
 ghost use Rattle.em_journal.specs.Record.{IsRecordAt};
 ghost use Rattle.em_watch.specs.Difference.{IsRegisterChange, LeavesAlone, LeavesOffset, LeavesRegisters};
 
@@ -88,14 +89,39 @@ fn next_changed(machine: &Machine, back: usize, from: u32) -> Option<RegisterCha
     let Some(past) = machine.record(back - 1) else {
         unreachable!()
     };
+    let mut end = past.reach(stored_below(from));
     let mut next = WORD * from.div_ceil(WORD);
-    while let Some(offset) = Reg::next_page_with_registers(next) {
+    while next < end {
+        let Some(offset) = Reg::next_page_with_registers(next) else {
+            return None;
+        };
         if let Some(change) = changed_at(machine, &past, back, offset) {
             return Some(change);
         }
+        // behind the register whose old word the record has there is often none to be seen
+        end = end.min(past.reach(stored_at(offset)));
         next = offset + WORD;
     }
     None
+}
+
+/// The register at an offset, if it keeps what software writes.
+fn stored_at(offset: u32) -> Option<Reg>
+    ensures { IfSome result (λ reg. IsStored reg × (offset_of reg ≡ offset)) }
+{
+    let reg = Reg::of_offset_in(Profile::Adapter, offset)?;
+    if reg.row().kind.is_stored() {
+        Some(reg)
+    } else {
+        None
+    }
+}
+
+/// The register at the offset just below another one, if it keeps what software writes.
+fn stored_below(from: u32) -> Option<Reg>
+    ensures { IfSome result (λ reg. IsStored reg × (offset_of reg < from)) }
+{
+    stored_at(from.checked_sub(1)?)
 }
 
 /// The register at an offset, if an event changed it, of which this is the record.
