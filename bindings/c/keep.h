@@ -38,7 +38,7 @@ void map_ends(kept *run);
 #define PLACE const uint8_t *name, size_t length, uint32_t line, uint64_t counter
 
 void kept_head(uint32_t profile, uint64_t base, uint64_t memory, uint64_t budget, const uint16_t words[64], kept_text *text);
-em_code kept_read(em_machine *machine, uint32_t offset, PLACE, kept_text *text);
+em_code kept_read(em_machine *machine, uint32_t offset, PLACE, kept_text *text, uint32_t *value);
 em_code kept_write(em_machine *machine, uint32_t offset, uint32_t value, PLACE, kept_text *text);
 em_code kept_poke(em_machine *machine, uint64_t address, const uint8_t *octets, size_t count, PLACE, kept_text *text);
 em_code kept_arrive(em_machine *machine, const uint8_t *frame, size_t count, PLACE, kept_text *text);

@@ -23,10 +23,7 @@ static em_code told(const em_machine *machine, em_code code, em_note *event) {
 
 em_code keep_read(em_machine *machine, uint32_t offset, uint32_t *value) {
   kept *run = kept_of(machine);
-  em_note event;
-  em_code code = told(machine, put(run, kept_read(machine, offset, OF(run), &run->text)), &event);
-  if (code == EM_OK) *value = event.value;
-  return code;
+  return put(run, kept_read(machine, offset, OF(run), &run->text, value));
 }
 
 em_code keep_write(em_machine *machine, uint32_t offset, uint32_t value) {

@@ -1,7 +1,7 @@
 //! Calls of a run that is kept: each performs what the call of its name performs, and tells the lines of it.
 ghost use Rattle.std.specs.Prelude.{◌≡◌};
 ghost use Rattle.em_step.specs.Event as events;
-ghost use Rattle.em_step.specs.Event.{reads, writes, pokes, arrives, links, receives, transmits};
+ghost use Rattle.em_step.specs.Event.{writes, pokes, arrives, links, receives, transmits};
 ghost use Rattle.em_kept.specs.Source as sources;
 ghost use Rattle.em_kept.specs.Head.{head_text};
 ghost use Rattle.em_c.specs.Profile.{profile_of};
@@ -9,12 +9,12 @@ ghost use Rattle.em_kept.specs.Kept.{event_text, refused_text};
 ghost use Rattle.em_c.specs.Refused.{Shows};
 ghost use Rattle.em_c.specs.Calls.{steps_back, held_back};
 ghost use Rattle.em_c.specs.Text.{Says};
-ghost use Rattle.em_c.specs.Kept.{Keeps, KeepsHeld, back_of, head_of, source_of};
+ghost use Rattle.em_c.specs.Kept.{Keeps, KeepsCall, KeepsHeld, KeepsRead, back_of, head_of, source_of};
 
 use crate::back::back;
 use crate::handle::EmMachine;
 use crate::profile::profile_of;
-use crate::refused::{DONE, Refused, tell};
+use crate::refused::{Refused, number, tell};
 use crate::tagged::Tagged;
 use crate::text::Text;
 use em_eeprom::Eeprom;
@@ -53,12 +53,17 @@ pub extern "C" fn kept_read(
     line: u32,
     counter: u64,
     text: &mut Text,
+    value: &mut u32,
 ) -> u32
-    ensures { Keeps machine.old.sealed.held (reads offset) (source_of file.now line counter) text.new result
+    ensures { KeepsRead machine.old.sealed.held offset (source_of file.now line counter) text.new value.old result value.new
         machine.new.sealed.held }
 {
     let source = source_of(file, line, counter);
-    keep(alloc, machine, Event::Read(offset), source, text)
+    match keep(alloc, machine, Event::Read(offset), source, text) {
+        Ok(Answer::Value(read)) => tell(Ok(read), value),
+        Ok(_) => tell(Ok(0), value),
+        Err(refused) => refused.number(),
+    }
 }
 
 /// Software writes a register.
@@ -73,11 +78,11 @@ pub extern "C" fn kept_write(
     counter: u64,
     text: &mut Text,
 ) -> u32
-    ensures { Keeps machine.old.sealed.held (writes offset value) (source_of file.now line counter) text.new result
+    ensures { KeepsCall machine.old.sealed.held (writes offset value) (source_of file.now line counter) text.new result
         machine.new.sealed.held }
 {
     let source = source_of(file, line, counter);
-    keep(alloc, machine, Event::Write(offset, value), source, text)
+    number(keep(alloc, machine, Event::Write(offset, value), source, text))
 }
 
 /// Software writes octets to guest memory.
@@ -92,11 +97,11 @@ pub extern "C" fn kept_poke(
     counter: u64,
     text: &mut Text,
 ) -> u32
-    ensures { Keeps machine.old.sealed.held (pokes addr octets.now) (source_of file.now line counter) text.new result
+    ensures { KeepsCall machine.old.sealed.held (pokes addr octets.now) (source_of file.now line counter) text.new result
         machine.new.sealed.held }
 {
     let source = source_of(file, line, counter);
-    keep(alloc, machine, Event::Poke(addr, octets), source, text)
+    number(keep(alloc, machine, Event::Poke(addr, octets), source, text))
 }
 
 /// A frame arrives from the wire.
@@ -110,11 +115,11 @@ pub extern "C" fn kept_arrive(
     counter: u64,
     text: &mut Text,
 ) -> u32
-    ensures { Keeps machine.old.sealed.held (arrives frame.now) (source_of file.now line counter) text.new result
+    ensures { KeepsCall machine.old.sealed.held (arrives frame.now) (source_of file.now line counter) text.new result
         machine.new.sealed.held }
 {
     let source = source_of(file, line, counter);
-    keep(alloc, machine, Event::Arrive(frame), source, text)
+    number(keep(alloc, machine, Event::Arrive(frame), source, text))
 }
 
 /// The link goes up, or down.
@@ -128,11 +133,11 @@ pub extern "C" fn kept_set_link(
     counter: u64,
     text: &mut Text,
 ) -> u32
-    ensures { Keeps machine.old.sealed.held (links up) (source_of file.now line counter) text.new result
+    ensures { KeepsCall machine.old.sealed.held (links up) (source_of file.now line counter) text.new result
         machine.new.sealed.held }
 {
     let source = source_of(file, line, counter);
-    keep(alloc, machine, Event::Link(up), source, text)
+    number(keep(alloc, machine, Event::Link(up), source, text))
 }
 
 /// The receive engine handles a descriptor.
@@ -145,11 +150,11 @@ pub extern "C" fn kept_rx_step(
     counter: u64,
     text: &mut Text,
 ) -> u32
-    ensures { Keeps machine.old.sealed.held receives (source_of file.now line counter) text.new result
+    ensures { KeepsCall machine.old.sealed.held receives (source_of file.now line counter) text.new result
         machine.new.sealed.held }
 {
     let source = source_of(file, line, counter);
-    keep(alloc, machine, Event::RxStep, source, text)
+    number(keep(alloc, machine, Event::RxStep, source, text))
 }
 
 /// The transmit engine handles a descriptor.
@@ -162,11 +167,11 @@ pub extern "C" fn kept_tx_step(
     counter: u64,
     text: &mut Text,
 ) -> u32
-    ensures { Keeps machine.old.sealed.held transmits (source_of file.now line counter) text.new result
+    ensures { KeepsCall machine.old.sealed.held transmits (source_of file.now line counter) text.new result
         machine.new.sealed.held }
 {
     let source = source_of(file, line, counter);
-    keep(alloc, machine, Event::TxStep, source, text)
+    number(keep(alloc, machine, Event::TxStep, source, text))
 }
 
 /// Takes the newest `n` events back, or as many as there are, and tells how many.
@@ -203,33 +208,35 @@ fn keep(
     event: Event<'_>,
     source: Source<'_>,
     text: &mut Text,
-) -> u32
+) -> Result<Answer, Refused>
     ensures { Keeps machine.old.sealed.held (events.plain event.entry) (sources.plain source.entry) text.new result
         machine.new.sealed.held }
 {
     text.clear();
-    let mut held = match machine.take(alloc) {
-        Ok(held) => held,
-        Err(refused) => return refused.number(),
-    };
-    let code = keep_held(&mut held, event, source, text);
+    let mut held = machine.take(alloc)?;
+    let outcome = keep_held(&mut held, event, source, text);
     machine.put(held);
-    code
+    outcome
 }
 
 /// Performs an event, and tells its line.
-fn keep_held(machine: &mut Tagged, event: Event<'_>, source: Source<'_>, text: &mut Text) -> u32
+fn keep_held(
+    machine: &mut Tagged,
+    event: Event<'_>,
+    source: Source<'_>,
+    text: &mut Text,
+) -> Result<Answer, Refused>
     ensures { KeepsHeld machine.old (events.plain event.entry) (sources.plain source.entry) text.new result
         machine.new }
 {
     match machine.perform(event) {
         Ok(answer) => {
             tell_event(text, event, answer, source);
-            DONE
+            Ok(answer)
         }
         Err(refusal) => {
             tell_refused(text, event, refusal, source);
-            Refused::of_event(refusal).number()
+            Err(Refused::of_event(refusal))
         }
     }
 }

@@ -7,7 +7,7 @@ use Rattle.em_c.proofs.kept.keep.Goals as goal
 -- what is held is the machine that was taken out, and then that which was put in
 pub returns : goal.returns
 returns c =
-    subst (λ held. Keeps held (events.plain c.args.event) (sources.plain c.args.source) c.keep_held-code.new.text
-    c.keep_held-code.result c.put.new.self.sealed.held)
-    (ap Some c.deref_mut.ensures.value ∙ sym c.in-Ok.ensures.some)
-    (_, c.keep_held-code.ensures, c.put.ensures)
+    subst (λ held. Keeps held (events.plain c.args.event) (sources.plain c.args.source) c.keep_held-outcome.new.text
+    c.keep_held-outcome.result c.put.new.self.sealed.held)
+    (ap Some c.deref_mut.ensures.value ∙ sym c.in_ok-held.ensures.some)
+    (_, c.keep_held-outcome.ensures, c.put.ensures)
