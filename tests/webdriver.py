@@ -13,6 +13,8 @@ ELEMENT = "element-6066-11e4-a52e-4f735466cecf"
 KEYS = {"ArrowLeft": "\uE012", "ArrowUp": "\uE013", "ArrowRight": "\uE014", "ArrowDown": "\uE015", "Home": "\uE011",
         "End": "\uE010", "PageUp": "\uE00E", "PageDown": "\uE00F", "Enter": "\uE007", "Tab": "\uE004",
         "Escape": "\uE00C", "Space": " "}
+# milliseconds, on a machine that others keep busy
+PATIENCE = 240_000
 
 
 def install() -> bool:
@@ -45,7 +47,7 @@ class Browser:
                  f"--user-data-dir={self.room}", f"--window-size={width},{height}", "--force-device-scale-factor=1"]
         wanted = {"alwaysMatch": {"pageLoadStrategy": "normal" if waits else "none",
                                   "goog:chromeOptions": {"args": words, "binary": shutil.which("chromium")},
-                                  "goog:loggingPrefs": {"browser": "ALL"}, "timeouts": {"script": 60000}}}
+                                  "goog:loggingPrefs": {"browser": "ALL"}, "timeouts": {"script": PATIENCE}}}
         self.session = None
         self.wait_for_driver()
         self.session = self.call("POST", "/session", {"capabilities": wanted})["sessionId"]
