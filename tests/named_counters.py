@@ -96,7 +96,7 @@ REFUSED_PAGES = (
      "ends at 10000000000 at most"),
 )
 # the elements with the record of a page, and its title
-RECORD = re.compile(rb'<script class="record" type="application/jsonl">(.*?)</script>', re.S)
+RECORD = re.compile(rb'<script class="record"[^>]*>(.*?)</script>', re.S)
 TITLE = re.compile(rb"<title>(.*?)</title>", re.S)
 
 
