@@ -1,5 +1,5 @@
 #!/usr/bin/env python3
-"""Records that are mutated, ten thousand of them or as many as are asked for, read by the page's own reader in a browser.
+"""Records that are mutated, ten thousand or as many as are asked for, read by the page's own reader in a browser.
 
     tests/page_mutations.py PROGRAM [MUTATIONS]        tries them alone; PROGRAM is em_record
 """
@@ -16,8 +16,8 @@ from tally import TOP, Tally
 MUTATIONS, AT_ONCE = 10_000, 500
 NAMES = ("ring.em", "transmit.em", "broken-ring.em", "reset.em")
 # what is put into a record: marks of JSON, digits, and what numbers and texts may not be
-PUT = ["0", "-", '"', "}", "{", "[", "]", ",", ":", "<", "null,", "1e9", "\\u0000", "9007199254740993", "\n", "\r", "\x00", "\xff"]
-# Makes so many mutations by numbers that follow a seed, reads each, and says how many were read whole, and what is wrong.
+PUT = [*'0-"}{[],:<', "null,", "1e9", "\\u0000", "9007199254740993", "\n", "\r", "\x00", "\xff"]
+# Makes so many mutations by numbers that follow a seed, and reads each: how many were read whole, and what is wrong.
 READS = """
 const [text, seed, count, put] = arguments;
 const octets = Uint8Array.from(text, (letter) => letter.charCodeAt(0));
