@@ -154,7 +154,12 @@ static void let_go(struct device *device) {
   if (em_let_go(&device->machine, &count) == EM_OK) device->kept = 0;
 }
 
-/* Hands on what the last step sent. */
+bool device_loops(const struct device *device) {
+  uint32_t loops = 0;
+  return em_loops(&device->machine, &loops) == EM_OK && loops != 0;
+}
+
+/* Hands on what the last step sent: to the wire, or back to the adapter where it loops. */
 static void hand_on(struct device *device) {
   uint8_t frame[EM_MOST_SENT];
   size_t count = 0, length = 0;
@@ -163,7 +168,8 @@ static void hand_on(struct device *device) {
     if (em_wire_frame(&device->machine, device->sent, frame, sizeof frame, &length) != EM_OK) continue;
     device->tally.sent++;
     device->kept += length;
-    if (device->on_sent) device->on_sent(device->whose, frame, length);
+    if (device_loops(device)) device_arrive(device, frame, length);
+    else if (device->on_sent) device->on_sent(device->whose, frame, length);
   }
   if (device->kept >= MOST_KEPT) let_go(device);
 }

@@ -72,6 +72,9 @@ void device_set_master(struct device *device, bool is_master);
 /* Whether the guest has its receiver enabled. */
 bool device_receives(const struct device *device);
 
+/* Whether the adapter loops: what it sends comes back, and nothing comes from the wire. */
+bool device_loops(const struct device *device);
+
 /* Whether a frame is better left on the wire until the guest has taken some of those that wait. */
 bool device_is_full(const struct device *device);
 

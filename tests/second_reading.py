@@ -64,6 +64,9 @@ MASKS_BESIDES = {
 }
 # FCAH, FCT, ITR, FCTTV, RDTR, RADV, TIDV and TADV, of which the second profile keeps 16 bits
 NARROW = {0x2C, 0x30, 0xC4, 0x170, 0x2820, 0x282C, 0x3820, 0x382C}
+# what CTRL, VET, LEDCTL, MANC and PBA start as in the second profile, and STATUS besides
+STARTS = {0x0: 0x140240, 0x38: 0x8100, 0xE00: 0x602, 0x5820: 0x222300, 0x1000: 0x100030}
+STATUS_BESIDES = 0x80080700
 # where no register lies below this, the second profile reads 0, and a write does nothing
 REACH = 0x20000
 # where the driver that a script starts keeps its rings and buffers
@@ -91,11 +94,15 @@ class State:
         self.pages = (bytes(PAGE),) * (size // PAGE)
         words = [mac[0] | mac[1] << 8, mac[2] | mac[3] << 8, mac[4] | mac[5] << 8] + [0] * 60
         self.words = (*words, (0xBABA - sum(words)) % 65536)
+        self.kept = {}
         self.reset()
+        if is_second:
+            self.put(0x1000, STARTS[0x1000])
 
     def reset(self) -> None:
         a, b, c = self.words[:3]
-        self.kept = {0x5400: a | b << 16, 0x5404: c | 1 << 31}
+        starts = STARTS | {0x1000: self.at(0x1000)} if self.is_second else {}
+        self.kept = starts | {0x5400: a | b << 16, 0x5404: c | 1 << 31}
         self.fifo, self.taken, self.gathered = (), 0, b""
 
     def at(self, offset: int) -> int:
@@ -128,7 +135,7 @@ class State:
 
     def look(self, offset: int) -> int:
         if offset == STATUS:
-            return 0x83 if self.link else 0x81
+            return (0x83 if self.link else 0x81) | (STATUS_BESIDES if self.is_second else 0)
         if offset == EECD:
             return self.pins.read(self.words)
         if offset == MDIC:

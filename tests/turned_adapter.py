@@ -164,4 +164,20 @@ PHY = [
     *((f"a reverse step leaves the {part}", TAKEN_BACK, f"        old = self.now.{part}\n{TAKEN_BACK}"
        f"        self.now = copy.copy(self.now)\n        self.now.{part} = old\n") for part in ("pins", "phy")),
 ]
-TURNED = [*STORED, *LOST_ACCESSES, *CHECK_SEQUENCE, *COSTS, *PINS, *PHY]
+STARTED = [
+    *((f"{name} starts as 0", f"{at}: {value}", f"{at}: 0") for name, at, value in (
+        ("CTRL", "0x0", "0x140240"), ("VET", "0x38", "0x8100"), ("LEDCTL", "0xE00", "0x602"),
+        ("MANC", "0x5820", "0x222300"), ("PBA", "0x1000", "0x100030"))),
+    *((f"{name} starts with another bit", f"{at}: {value}", f"{at}: {other}") for name, at, value, other in (
+        ("CTRL", "0x0", "0x140240", "0x140241"), ("VET", "0x38", "0x8100", "0x88A8"),
+        ("LEDCTL", "0xE00", "0x602", "0x603"), ("MANC", "0x5820", "0x222300", "0x222301"),
+        ("PBA", "0x1000", "0x100030", "0x100031"))),
+    ("STATUS has no other bits", "STATUS_BESIDES = 0x80080700", "STATUS_BESIDES = 0"),
+    ("STATUS without bit 31", "STATUS_BESIDES = 0x80080700", "STATUS_BESIDES = 0x80700"),
+    ("a reset makes PBA start anew", "STARTS | {0x1000: self.at(0x1000)} if", "STARTS if"),
+    ("a reset keeps VET", "STARTS | {0x1000: self.at(0x1000)} if",
+     "STARTS | {0x1000: self.at(0x1000), 0x38: self.at(0x38) or STARTS[0x38]} if"),
+    ("a reset leaves zeros", "        starts = STARTS | {0x1000: self.at(0x1000)} if self.is_second else {}\n",
+     "        starts = STARTS if self.is_second and not self.kept else {}\n"),
+]
+TURNED = [*STORED, *STARTED, *LOST_ACCESSES, *CHECK_SEQUENCE, *COSTS, *PINS, *PHY]

@@ -449,6 +449,11 @@ EM_CHECKED em_code em_run_tx(em_machine *machine, size_t n, size_t *done);
 /* The interrupt line: 1 where it is asserted, else 0. Constant. */
 EM_CHECKED em_code em_line(const em_machine *machine, uint32_t *level);
 
+/* Whether frames that are sent come back: 1, else 0. A machine of the second profile loops by RCTL.LBM (bits 7:6) or by
+   bit 14 of the PHY's word 0. A frame that it sends then is on the wire as any other is, and who carries the wire calls
+   em_arrive with it, and lets no other frame arrive. Constant. */
+EM_CHECKED em_code em_loops(const em_machine *machine, uint32_t *loops);
+
 /* How many frames were sent since the machine was made. Constant. */
 EM_CHECKED em_code em_wire_count(const em_machine *machine, size_t *count);
 

@@ -6,8 +6,8 @@ r 4 = 00000000
 w 1FFFC 1 = ok
 r 1FFFC = 00000000
 # nor does a write reach what lies beside it: VET, at 38
-w 3C 8100 = ok
-r VET = 00000000
+w 3C 1234 = ok
+r VET = 00008100
 # these were events
 back 7 = back 7
 back = refused Empty

@@ -1,12 +1,12 @@
 # em_debug --profile adapter
-# at power on each is 0; what a write keeps, of all bits and of some
+# at power on each is 0 but MANC; what a write keeps, of all bits and of some
 r TXCW = 00000000
 r AIT = 00000000
 r FCRTL = 00000000
 r FCRTH = 00000000
 r WUC = 00000000
 r WUFC = 00000000
-r MANC = 00000000
+r MANC = 00222300
 r SWSM = 00000000
 r FCAH = 00000000
 r FCT = 00000000
@@ -83,7 +83,7 @@ r TADV = 00005678
 # FCAL, between them, keeps all bits
 w FCAL FFFFFFFF = ok
 r FCAL = FFFFFFFF
-# a reset clears them
+# a reset clears them, and MANC starts anew
 w CTRL 04000000 = ok
 r TXCW = 00000000
 r AIT = 00000000
@@ -91,7 +91,7 @@ r FCRTL = 00000000
 r FCRTH = 00000000
 r WUC = 00000000
 r WUFC = 00000000
-r MANC = 00000000
+r MANC = 00222300
 r SWSM = 00000000
 r FCAH = 00000000
 r FCT = 00000000

@@ -94,13 +94,31 @@ static void makes_of_a_profile(void) {
   OK(em_look(&machine, MDIC, &value));
   CHECK(value == 0x18220141 && read_of(&machine, EECD) == 0x1CA);
   OK(em_registers(&machine, all, EM_REGISTERS, &count));
-  CHECK(count > 3 && all[0].offset == STATUS && all[1].offset == EECD && all[1].value == 0x1CA);
+  CHECK(count > 4 && all[0].offset == CTRL && all[0].value == 0x00140240 && all[1].offset == STATUS);
+  CHECK(all[2].offset == EECD && all[2].value == 0x1CA);
   OK(em_back(&machine, 2, &count));
   CHECK(count == 2 && read_of(&machine, EECD) == 0x118);
+  OK(em_loops(&machine, &value));
+  CHECK(value == 0);
+  OK(em_write(&machine, RCTL, 0x80)); /* LBM */
+  OK(em_loops(&machine, &value));
+  CHECK(value == 1);
+  OK(em_write(&machine, RCTL, 0x100));
+  OK(em_loops(&machine, &value));
+  CHECK(value == 0);
+  OK(em_write(&machine, MDIC, 0x04204140)); /* loopback in the PHY's word 0 */
+  OK(em_loops(&machine, &value));
+  CHECK(value == 1);
+  OK(em_back(&machine, 1, &count));
+  OK(em_loops(&machine, &value));
+  CHECK(value == 0);
   em_free(&machine);
   OK(em_make_as_with_eeprom(&machine, EM_PROFILE_TABLE, 0, UINT64_C(1) << 40, BUDGET, words));
   OK(em_profile(&machine, &profile));
   CHECK(profile == EM_PROFILE_TABLE && read_of(&machine, RAL0) == 0x12005452);
+  OK(em_write(&machine, RCTL, 0xC0));
+  OK(em_loops(&machine, &value));
+  CHECK(value == 0);
   REFUSED(em_read(&machine, EECD, &value), EM_NO_REGISTER);
   REFUSED(em_write(&machine, MDIC, 0), EM_NO_REGISTER);
   em_free(&machine);
@@ -143,6 +161,7 @@ static void refuses_an_empty_handle(void) {
   REFUSED(em_rx_step(&machine, &event), EM_NOT_MADE);
   REFUSED(em_tx_step(&machine, &event), EM_NOT_MADE);
   REFUSED(em_line(&machine, &value), EM_NOT_MADE);
+  REFUSED(em_loops(&machine, &value), EM_NOT_MADE);
   REFUSED(em_wire_count(&machine, &count), EM_NOT_MADE);
   REFUSED(em_wire_frame(&machine, 0, octets, 14, &count), EM_NOT_MADE);
   REFUSED(em_wire_next(&machine, octets, 14, &count), EM_NOT_MADE);

@@ -432,6 +432,7 @@ static void asks_for_none(void) {
   OK(em_rx_step(&machine, &event)); /* idle */
   OK(em_tx_step(&machine, &event));
   OK(em_line(&machine, &value));
+  OK(em_loops(&machine, &value));
   OK(em_wire_count(&machine, &count));
   OK(em_wire_frame(&machine, 0, all->frames[0], 2048, &count));
   OK(em_wire_next(&machine, all->frames[0], 2048, &count));

@@ -530,6 +530,14 @@ class Machine(Explained):
         return self._told(library.em_line, U32()) != 0
 
     @property
+    def loops(self) -> bool:
+        """Whether frames that are sent come back, by RCTL.LBM or by the PHY's word 0: never in the first profile.
+
+        Who carries the wire then lets each that is sent arrive, and no other.
+        """
+        return self._told(library.em_loops, U32()) != 0
+
+    @property
     def wire(self) -> List[bytes]:
         """The frames that were sent, the first one first."""
         room, length = ctypes.create_string_buffer(_tables.MOST_SENT), SIZE_T()

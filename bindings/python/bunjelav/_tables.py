@@ -406,6 +406,7 @@ CALLS = {
     "em_rx_step": [POINTER(Handle), POINTER(Note)],
     "em_tx_step": [POINTER(Handle), POINTER(Note)],
     "em_line": [POINTER(Handle), POINTER(c_uint32)],
+    "em_loops": [POINTER(Handle), POINTER(c_uint32)],
     "em_wire_count": [POINTER(Handle), POINTER(c_size_t)],
     "em_wire_frame": [POINTER(Handle), c_size_t, c_void_p, c_size_t, POINTER(c_size_t)],
     "em_attach": [POINTER(Handle), POINTER(Ram)],

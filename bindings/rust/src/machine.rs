@@ -696,6 +696,14 @@ impl Machine {
         level != 0
     }
 
+    /// Whether frames that are sent come back, by RCTL.LBM or by the PHY's word 0: never in the first profile. Who carries
+    /// the wire then lets each that is sent arrive, and no other.
+    pub fn loops(&self) -> bool {
+        let mut loops = 0;
+        unsafe { raw::em_loops(self.handle.get(), &mut loops) };
+        loops != 0
+    }
+
     /// How many frames were sent.
     pub fn wire_count(&self) -> usize {
         let mut count = 0;

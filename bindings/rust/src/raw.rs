@@ -397,6 +397,7 @@ extern "C" {
     pub(crate) fn em_rx_step(machine: *mut Handle, event: *mut Note) -> u32;
     pub(crate) fn em_tx_step(machine: *mut Handle, event: *mut Note) -> u32;
     pub(crate) fn em_line(machine: *const Handle, level: *mut u32) -> u32;
+    pub(crate) fn em_loops(machine: *const Handle, loops: *mut u32) -> u32;
     pub(crate) fn em_wire_count(machine: *const Handle, count: *mut usize) -> u32;
     pub(crate) fn em_wire_frame(
         machine: *const Handle,

@@ -6,6 +6,7 @@ use Rattle.em_regs.specs.Table.{reg_of}
 use Rattle.em_regs.specs.declared.reg.Reg.{Reg}
 use Rattle.em_latch.specs.Latches.{causes, mask}
 use Rattle.em_step.specs.Access.{gives}
+use Rattle.em_step.specs.Loops.{loops}
 use Rattle.em_step.specs.State.{State}
 use Rattle.em_journal.specs.View.{View}
 use Rattle.em_watch.specs.Watching.{is_asserted}
@@ -53,6 +54,10 @@ whole_memory n v = if size_of v.present == n then Ok (octets_of v.present) else 
 -- the interrupt line: 1 where it is asserted, else 0
 abbrev pub line : View → Result ℕ Refused
 line v = Ok (if is_asserted (causes v.present.latches) (mask v.present.latches) then 1 else 0)
+
+-- whether frames that are sent come back: 1, else 0
+abbrev pub looping : View → Result ℕ Refused
+looping v = Ok (if loops v.present then 1 else 0)
 
 -- how many events can be taken back
 abbrev pub reach : View → Result ℕ Refused

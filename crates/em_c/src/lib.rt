@@ -96,5 +96,5 @@ pub use warnings::em_warnings;
 pub use watch::{EmChange, EmWatch, em_last_change};
 pub use why::em_why;
 pub use wire::{
-    em_arrive, em_line, em_rx_step, em_set_link, em_tx_step, em_wire_count, em_wire_frame,
+    em_arrive, em_line, em_loops, em_rx_step, em_set_link, em_tx_step, em_wire_count, em_wire_frame,
 };

@@ -3,7 +3,7 @@ ghost use Rattle.std.specs.Prelude.{◌≡◌, ◌<◌, OnOk, length};
 ghost use Rattle.em_step.specs.Event.{plain, arrives, links, receives, transmits};
 ghost use Rattle.em_c.specs.Refused.{number, told, Shows};
 ghost use Rattle.em_c.specs.Calls.{Calls, CallsAndTells};
-ghost use Rattle.em_c.specs.Looks.{asked, laid_into, length_of, line, wire_count, wire_frame};
+ghost use Rattle.em_c.specs.Looks.{asked, laid_into, length_of, line, looping, wire_count, wire_frame};
 
 use crate::handle::EmMachine;
 use crate::note::EmNote;
@@ -60,6 +60,15 @@ pub extern "C" fn em_line(machine: &mut EmMachine, level: &mut u32) -> u32
     tell(line(machine), level)
 }
 
+/// Whether frames that are sent come back: 1, else 0. Who carries the wire lets them arrive.
+#[unsafe(no_mangle)]
+pub extern "C" fn em_loops(machine: &mut EmMachine, loops: &mut u32) -> u32
+    ensures loops { Shows (asked machine.old.sealed.held looping) loops.old result loops.new }
+    ensures same { machine.new.sealed.held ≡ machine.old.sealed.held }
+{
+    tell(looping(machine), loops)
+}
+
 /// How many frames were sent.
 #[unsafe(no_mangle)]
 pub extern "C" fn em_wire_count(machine: &mut EmMachine, count: &mut usize) -> u32
@@ -94,6 +103,16 @@ fn line(machine: &mut EmMachine) -> Result<u32, Refused>
     let held = machine.held()?;
     let asserted = held.looked_at().line();
     Ok(if asserted { 1 } else { 0 })
+}
+
+/// Whether frames that are sent come back.
+fn looping(machine: &mut EmMachine) -> Result<u32, Refused>
+    ensures loops { result ≡ asked machine.old.sealed.held looping }
+    ensures same { machine.new.sealed.held ≡ machine.old.sealed.held }
+{
+    let held = machine.held()?;
+    let loops = held.looked_at().loops();
+    Ok(if loops { 1 } else { 0 })
 }
 
 /// How many frames were sent.

@@ -29,6 +29,7 @@ ghost use Rattle.em_rx.specs.StoredFrame.{LiesSo};
 ghost use Rattle.em_step.specs.Access.{gives};
 ghost use Rattle.em_step.specs.Cells.{shows};
 ghost use Rattle.em_step.specs.Cost.{least_cost};
+ghost use Rattle.em_step.specs.Loops.{loops};
 ghost use Rattle.em_step.specs.Event.{plain, reads, writes, pokes, arrives, links, receives, transmits};
 ghost use Rattle.em_journal.specs.Budget.{IsBudget};
 ghost use Rattle.em_journal.specs.History.{refuses, goes_back, is_empty, Does, Run, WasJournalled};
@@ -487,6 +488,14 @@ impl Machine {
         ensures { result ≡ self.now.present.profile }
     {
         self.adapter.profile()
+    }
+
+    /// Whether frames that are sent come back, by RCTL.LBM or by the PHY's word 0: never in the first profile. They are on
+    /// the wire, as others are, and who carries it lets them arrive.
+    pub fn loops(&self) -> bool
+        ensures { result ≡ loops self.now.present }
+    {
+        self.adapter.loops()
     }
 
     /// What a read of the register at an offset (octets) would give, with nothing cleared; none

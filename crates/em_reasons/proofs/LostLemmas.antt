@@ -17,7 +17,9 @@ use Rattle.em_regs.specs.Storage.{Registers}
 use Rattle.em_rx.specs.Fifo.{Fifo, octets_in}
 use Rattle.em_rx.specs.Frame.{len_of, stored_frame}
 use Rattle.em_step.specs.Arrival.{keeps_sequence, kept_frame, with_sequence}
-use Rattle.em_step.specs.State.{State}
+use Rattle.em_regs.specs.declared.profile.Profile.{Profile}
+use Rattle.em_regs.specs.declared.profile.Profile.TheVariants.{Table, Adapter}
+use Rattle.em_step.specs.State.{State, status_of}
 use Rattle.em_step.specs.declared.event.Reason.{Reason}
 use Rattle.em_reasons.specs.Bits.{bit_of, word_of}
 use Rattle.em_reasons.specs.Dropped.{IsDropped, drop_table, reason_of, to_of, unfiltered_by, why}
@@ -31,14 +33,27 @@ use Rattle.em_reasons.proofs.DropLemmas.{destination_to, drops_with_reason}
 
 -- ---- the tests, where what they look at is the same
 -- LU of STATUS tells the link
-abbrev up_by : Bool → ℕ
-up_by up = bit_and (if up then 0x83 else 0x81) 0x2
+abbrev up_by : Profile → Bool → ℕ
+up_by p up = bit_and (status_of p up) 0x2
 
-link_same : (a b : Bool) → up_by a ≡ up_by b → a ≡ b
-link_same true true h = refl
-link_same true false h = absurd (omega arith)
-link_same false true h = absurd (omega arith)
-link_same false false h = refl
+abbrev lu : Bool → ℕ
+lu true = 0x2
+lu false = 0
+
+up_alone : (p : Profile) (up : Bool) → up_by p up ≡ lu up
+up_alone Table true = refl
+up_alone Table false = refl
+up_alone Adapter true = refl
+up_alone Adapter false = refl
+
+alike : (a b : Bool) → lu a ≡ lu b → a ≡ b
+alike true true h = refl
+alike true false h = absurd (omega arith)
+alike false true h = absurd (omega arith)
+alike false false h = refl
+
+link_same : (p q : Profile) (a b : Bool) → up_by p a ≡ up_by q b → a ≡ b
+link_same p q a b h = alike a b (sym (up_alone p a) ∙ h ∙ up_alone q b)
 
 any_same : (p q : ℕ → Bool) (from n : ℕ) → ((i : ℕ) → from ≤ i → i < from + n → p i ≡ q i)
     → list_any p (range_with_len from n) ≡ list_any q (range_with_len from n)
@@ -214,7 +229,7 @@ lost_again : (s t : State) (f : List ℕ) (k : ℕ) (d : Dropped) → slice_get 
     → SameLooks s t (dropped_looks d) → keeps_sequence t ≡ keeps_sequence s → is_some (why t f) ≡ true
 lost_again s t f zero d h same keeps =
     let looks = looks_of s t _ _ d h same in
-    some_where (drop_table t f) 0 _ refl (ap not (link_same t.link s.link looks.0) ∙ holds_of _ _ d h)
+    some_where (drop_table t f) 0 _ refl (ap not (link_same t.profile s.profile t.link s.link looks.0) ∙ holds_of _ _ d h)
 lost_again s t f (suc zero) d h same keeps =
     let looks = looks_of s t _ _ d h same in
     some_where (drop_table t f) 1 _ refl (ap (λ (v : ℕ). not (v == 0x2)) looks.0 ∙ holds_of _ _ d h)

@@ -23,10 +23,11 @@ use Rattle.std.specs.FinMap as map
 use Rattle.std.specs.Coded.{Coded, coded_ℕ}
 use Rattle.std.specs.Int.{w16, w32, from_le_bytes}
 use Rattle.em_regs.specs.declared.reg.Reg.{Reg}
-use Rattle.em_regs.specs.declared.reg.Reg.TheVariants.{Eerd, Ral, Rah}
+use Rattle.em_regs.specs.declared.reg.Reg.TheVariants.{Ctrl, Eerd, Ledctl, Manc, Pba, Ral, Rah, Vet}
 use Rattle.em_regs.specs.declared.table.Kind.TheVariants.{Stored}
 use Rattle.em_regs.specs.Table.{IsReg, is_stored, row_of, offset_of, mask_in, mask_of}
 use Rattle.em_regs.specs.declared.profile.Profile.{Profile}
+use Rattle.em_regs.specs.declared.profile.Profile.TheVariants.{Table, Adapter}
 use Rattle.em_regs.specs.Storage.{Registers, words_at, offsets}
 
 abbrev pub registers_code : Coded Registers
@@ -80,11 +81,46 @@ address_low mac =
 abbrev pub address_high : List ℕ → ℕ
 address_high mac = from_le_bytes w16 (slice_index mac 4 ∷ slice_index mac 5 ∷ [])
 
--- after a reset: all zero, but that the first receive address is the given one, and valid (AV, bit 31)
+-- all zero, but that the first receive address is the given one, and valid (AV, bit 31)
 abbrev pub reset : List ℕ → Registers
 reset mac =
     map.insert (map.insert zeroed (offset_of (Ral 0)) (address_low mac)) (offset_of (Rah 0))
     (address_high mac + 0x8000_0000)
+
+-- the other registers that do not start as zero in the second profile, and what they start as
+abbrev pub start_values : List (Reg × ℕ)
+start_values =
+    (Ctrl, 0x0014_0240) ∷ (Vet, 0x0000_8100) ∷ (Ledctl, 0x0000_0602) ∷ (Manc, 0x0022_2300) ∷ (Pba, 0x0010_0030) ∷ []
+
+-- numbers put into registers, one after another
+abbrev pub put_all : Registers → List (Reg × ℕ) → Registers
+put_all m [] = m
+put_all m (p ∷ ps) = put_all (map.insert m (offset_of p.0) p.1) ps
+
+-- at power on
+abbrev pub at_power_on : Profile → List ℕ → Registers
+at_power_on Table mac = reset mac
+at_power_on Adapter mac = put_all (reset mac) start_values
+
+-- after a reset of the given registers: as at power on, but that in the second profile PBA keeps what it held
+abbrev pub after_reset : Profile → Registers → List ℕ → Registers
+after_reset Table m mac = at_power_on Table mac
+after_reset Adapter m mac = map.insert (at_power_on Adapter mac) (offset_of Pba) (at m (offset_of Pba))
+
+-- the number that a list has for an offset
+abbrev pub value_in : List (Reg × ℕ) → ℕ → ℕ → ℕ
+value_in [] o otherwise = otherwise
+value_in (p ∷ ps) o otherwise = value_in ps o (if offset_of p.0 == o then p.1 else otherwise)
+
+-- what power on leaves at an offset that is not the first receive address's
+abbrev pub start_at : Profile → ℕ → ℕ
+start_at Table o = 0
+start_at Adapter o = value_in start_values o 0
+
+-- and a reset
+abbrev pub left_at : Profile → Registers → ℕ → ℕ
+left_at Table m o = 0
+left_at Adapter m o = if offset_of Pba == o then at m o else start_at Adapter o
 
 -- ---- what takes a write back
 -- what the word at an offset was

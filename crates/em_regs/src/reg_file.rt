@@ -4,6 +4,7 @@ ghost use Rattle.std.specs.FinMap as map;
 ghost use Rattle.em_regs.specs.Table.{offset_of, row_of};
 ghost use Rattle.em_regs.specs.Storage.{Registers, offsets, words_at};
 ghost use Rattle.em_regs.specs.RegFile.{at, IsStored, put, put_in, put_eerd, reset, zeroed, Fits, old_at, undo};
+ghost use Rattle.em_regs.specs.RegFile.{after_reset, at_power_on, put_all, start_values};
 ghost use Rattle.em_regs.specs.RegFile.{Reverses, words_of};
 
 use crate::bits::{Eerd, Rah};
@@ -32,6 +33,21 @@ impl Model for RegFile {
 
     ghost view = { λ file. words_at offsets file.words };
 }
+
+/// What CTRL starts as in the second profile: SPEED 10b, SLU, and two pins that are driven high.
+const CTRL_START: u32 = 0x0014_0240;
+
+/// VET: the type of a frame with a VLAN tag.
+const VET_START: u32 = 0x0000_8100;
+
+/// LEDCTL: what the lights show.
+const LEDCTL_START: u32 = 0x0000_0602;
+
+/// MANC: what a management controller answers.
+const MANC_START: u32 = 0x0022_2300;
+
+/// PBA: 48 KiB for receiving, and 16 for sending.
+const PBA_START: u32 = 0x0010_0030;
 
 /// What a register held before it was written.
 #[derive(Drop)]
@@ -90,14 +106,14 @@ impl RegUndo {
 }
 
 impl RegFile {
-    /// The registers after a reset, with the Ethernet address as the first receive address.
-    pub fn reset(mac: [u8; 6]) -> RegFile
-        ensures { result ≡ reset mac }
+    /// The registers at power on, with the Ethernet address as the first receive address.
+    pub fn at_power_on(profile: Profile, mac: [u8; 6]) -> RegFile
+        ensures { result ≡ at_power_on profile mac }
     {
         let mut file = RegFile {
             words: [0; STORED_WORDS],
         };
-        file.set_address(mac);
+        file.start(profile, mac);
         file
     }
 
@@ -123,12 +139,38 @@ impl RegFile {
         &self.words
     }
 
-    /// Resets the registers where they lie.
-    pub fn reset_in_place(&mut self, mac: [u8; 6])
-        ensures { self.new ≡ reset mac }
+    /// Makes these the registers that a reset leaves of others. In the second profile PBA keeps what it held.
+    pub fn reset_from(&mut self, others: &RegFile, profile: Profile, mac: [u8; 6])
+        ensures { self.new ≡ after_reset profile others.now mac }
     {
         self.words = [0; STORED_WORDS];
+        self.start(profile, mac);
+        if matches!(profile, Profile::Adapter) {
+            self.store(Reg::Pba, others.look(Reg::Pba));
+        }
+    }
+
+    /// Gives the registers their start values.
+    fn start(&mut self, profile: Profile, mac: [u8; 6])
+        requires { self.old ≡ zeroed }
+        ensures { self.new ≡ at_power_on profile mac }
+    {
         self.set_address(mac);
+        if matches!(profile, Profile::Adapter) {
+            self.set_start_values();
+        }
+    }
+
+    /// The start values of the second profile, beside the first receive address: those of QEMU's model (this project's
+    /// profile).
+    fn set_start_values(&mut self)
+        ensures { self.new ≡ put_all self.old start_values }
+    {
+        self.store(Reg::Ctrl, CTRL_START);
+        self.store(Reg::Vet, VET_START);
+        self.store(Reg::Ledctl, LEDCTL_START);
+        self.store(Reg::Manc, MANC_START);
+        self.store(Reg::Pba, PBA_START);
     }
 
     /// Makes the Ethernet address the first receive address.

@@ -1,17 +1,17 @@
 -- What registers give after a reset.
-use Rattle.std.proofs.Common.{◌≡◌, ◌≢◌, ℕ, ◌+◌, false, List, [], length, Some, refl, ◌∙◌, sym, ap, arith}
+use Rattle.std.proofs.Common.{◌≡◌, ◌≢◌, ℕ, ◌+◌, true, false, List, [], length, Some, refl, ◌∙◌, sym, ap, arith}
 use Rattle.em_regs.specs.declared.reg.Reg.{Reg}
 use Rattle.em_regs.specs.declared.reg.Reg.TheVariants as named
 use Rattle.em_regs.specs.declared.reg.Reg.TheVariants.{Ics, Imc, Ral, Rah}
 use Rattle.em_regs.specs.declared.profile.Profile.{Profile}
 use Rattle.em_regs.specs.declared.table.Kind.{Kind}
+use Rattle.em_regs.specs.declared.profile.Profile.TheVariants.{Table}
+use Rattle.em_regs.specs.declared.table.Kind.TheVariants.{Stored, Control, EepromRead}
 use Rattle.em_regs.specs.declared.table.Kind.TheVariants.{Status, Interrupt, Counter, EepromPins, PhyCommand, Uncounted}
-use Rattle.em_regs.specs.Table.{IsReg, row_of, offset_of, reg_at}
+use Rattle.em_regs.specs.Table.{IsReg, is_stored, is_stored_kind, row_of, offset_of, reg_at}
 use Rattle.em_regs.specs.RegFile as registers
-use Rattle.em_regs.specs.RegFile.{zeroed, address_low, address_high}
-use Rattle.em_regs.specs.Storage as storage
-use Rattle.em_regs.specs.Storage.{Registers}
-use Rattle.em_regs.proofs.Entries.{at-insert_same, at-insert_other}
+use Rattle.em_regs.specs.RegFile.{IsStored, address_low, address_high, left_at}
+use Rattle.em_regs.proofs.ResetLaws.{high_left, left_by_reset, low_left, reset_again}
 use Rattle.em_regs.proofs.Words.{at-zeros}
 use Rattle.em_regs.proofs.TableLaws.{reg_at-offset_of}
 use Rattle.em_latch.specs.Latches as latches
@@ -41,36 +41,56 @@ apart p q is_p is_q other =
     λ same. let found : Some p ≡ Some q = sym (reg_at-offset_of p is_p) ∙ ap reg_at same ∙ reg_at-offset_of q is_q in
     other cc
 
-by_kind : (kind : Kind) (s : State) (reg : Reg) → kind ≢ Status → kind ≢ EepromPins → kind ≢ PhyCommand
-    → latches.gives s.latches reg ≡ 0
-    → registers.at s.registers (offset_of reg) ≡ 0 → gives_by kind s reg ≡ 0
-by_kind Status s reg other no_pins no_phy latched stored = absurd (other refl)
-by_kind EepromPins s reg other no_pins no_phy latched stored = absurd (no_pins refl)
-by_kind PhyCommand s reg other no_pins no_phy latched stored = absurd (no_phy refl)
-by_kind Uncounted s reg other no_pins no_phy latched stored = refl
-by_kind Interrupt s reg other no_pins no_phy latched stored = latched
-by_kind Counter s reg other no_pins no_phy latched stored = latched
-by_kind kind s reg other no_pins no_phy latched stored = stored
+stored_by : (kind : Kind) (s : State) (reg : Reg) → is_stored_kind kind ≡ true
+    → gives_by kind s reg ≡ registers.at s.registers (offset_of reg)
+stored_by Stored s reg is = refl
+stored_by Control s reg is = refl
+stored_by EepromRead s reg is = refl
+stored_by Status s reg is = absurd (let t : false ≡ true = is in cc)
+stored_by Interrupt s reg is = absurd (let t : false ≡ true = is in cc)
+stored_by Counter s reg is = absurd (let t : false ≡ true = is in cc)
+stored_by EepromPins s reg is = absurd (let t : false ≡ true = is in cc)
+stored_by PhyCommand s reg is = absurd (let t : false ≡ true = is in cc)
+stored_by Uncounted s reg is = absurd (let t : false ≡ true = is in cc)
 
--- nor does any other register of the file
-pub stored_zero : (mac : List ℕ) (o : ℕ) → o ≢ 0x05400 → o ≢ 0x05404 → registers.at (registers.reset mac) o ≡ 0
-unfolding zeroed
-stored_zero mac o low high =
-    at-insert_other _ _ _ o high ∙ at-insert_other _ _ _ o low ∙ at-zeros storage.offsets (length storage.offsets) o
+-- a register that keeps what is written
+pub left_after_reset : (s : State) (reg : Reg) → IsStored reg → reg ≢ Ral 0 → reg ≢ Rah 0
+    → gives (reset s) reg ≡ left_at s.profile s.registers (offset_of reg)
+left_after_reset s reg is low high =
+    stored_by (row_of reg).kind (reset s) reg is.1
+    ∙ left_by_reset s.profile s.registers (mac_of s.eeprom) (offset_of reg)
+    (apart reg (Ral 0) is.0 (omega arith) low) (apart reg (Rah 0) is.0 (omega arith) high)
 
-pub zero_after_reset :
-    (s : State) (reg : Reg) → IsReg reg → reg ≢ named.Status → reg ≢ named.Eecd → reg ≢ named.Mdic → reg ≢ Ral 0 → reg ≢ Rah 0 → gives (reset s) reg ≡ 0
-zero_after_reset s reg is other no_pins no_phy low high =
-    by_kind (row_of reg).kind (reset s) reg (status_alone reg other) (pins_alone reg no_pins) (mdic_alone reg no_phy)
+-- which is 0 in the first profile
+pub zero_in_table : (s : State) (reg : Reg) → s.profile ≡ Table → IsStored reg → reg ≢ Ral 0 → reg ≢ Rah 0
+    → gives (reset s) reg ≡ 0
+zero_in_table s reg first is low high =
+    left_after_reset s reg is low high ∙ ap (λ p. left_at p s.registers (offset_of reg)) first
+
+-- every other one
+other_by : (kind : Kind) (s : State) (reg : Reg) → is_stored_kind kind ≡ false → kind ≢ Status → kind ≢ EepromPins
+    → kind ≢ PhyCommand → latches.gives s.latches reg ≡ 0 → gives_by kind s reg ≡ 0
+other_by Stored s reg is other no_pins no_phy latched = absurd (let t : true ≡ false = is in cc)
+other_by Control s reg is other no_pins no_phy latched = absurd (let t : true ≡ false = is in cc)
+other_by EepromRead s reg is other no_pins no_phy latched = absurd (let t : true ≡ false = is in cc)
+other_by Status s reg is other no_pins no_phy latched = absurd (other refl)
+other_by EepromPins s reg is other no_pins no_phy latched = absurd (no_pins refl)
+other_by PhyCommand s reg is other no_pins no_phy latched = absurd (no_phy refl)
+other_by Uncounted s reg is other no_pins no_phy latched = refl
+other_by Interrupt s reg is other no_pins no_phy latched = latched
+other_by Counter s reg is other no_pins no_phy latched = latched
+
+pub zero_after_reset : (s : State) (reg : Reg) → is_stored reg ≡ false
+    → reg ≢ named.Status → reg ≢ named.Eecd → reg ≢ named.Mdic → gives (reset s) reg ≡ 0
+zero_after_reset s reg is other no_pins no_phy =
+    other_by (row_of reg).kind (reset s) reg is (status_alone reg other) (pins_alone reg no_pins) (mdic_alone reg no_phy)
     (fresh_gives reg)
-    (stored_zero (mac_of s.eeprom) (offset_of reg) (apart reg (Ral 0) is (omega arith) low)
-    (apart reg (Rah 0) is (omega arith) high))
 
 pub low_after_reset : (s : State) → gives (reset s) (Ral 0) ≡ address_low (mac_of s.eeprom)
-low_after_reset s = at-insert_other _ _ _ 0x05400 (λ e. absurd (omega arith)) ∙ at-insert_same _ _ _
+low_after_reset s = low_left s.profile s.registers (mac_of s.eeprom)
 
 pub high_after_reset : (s : State) → gives (reset s) (Rah 0) ≡ address_high (mac_of s.eeprom) + 0x8000_0000
-high_after_reset s = at-insert_same _ _ _
+high_after_reset s = high_left s.profile s.registers (mac_of s.eeprom)
 
 -- a new FIFO shows no frame
 fresh_fifo : rx.shows rx.fresh ≡ rx.empty
@@ -82,7 +102,7 @@ pub new_is_reset : (profile : Profile) (base size : ℕ) (eeprom : List ℕ) →
 new_is_reset profile base size eeprom =
     let c : Cells = cells.fresh_as profile base size eeprom in
     λ i. record {
-      registers = c.registers;
+      registers = sym (reset_again profile (mac_of eeprom)) i;
       latches = c.latches;
       fifo = fresh_fifo i;
       base = c.memory.base;

@@ -32,11 +32,12 @@ gives s reg = gives_by (row_of reg).kind s reg
 abbrev pub after_read : State → Reg → State
 after_read s reg = if is_latched reg then record s { latches = latches.after_read s.latches reg } else s
 
--- a reset leaves every register zero but STATUS and the first receive address, which is the EEPROM's, the FIFO empty
--- and nothing gathered; memory, EEPROM, link and wire stay, and the EEPROM's pins and the PHY (this project's profile)
+-- a reset leaves each register its start value, but STATUS and the first receive address, which is the EEPROM's, the
+-- FIFO empty and nothing gathered; memory, EEPROM, link and wire stay, and the EEPROM's pins and the PHY, and PBA in the
+-- second profile (this project's profile)
 abbrev pub reset : State → State
 reset s = record s {
-  registers = registers.reset (mac_of s.eeprom);
+  registers = registers.after_reset s.profile s.registers (mac_of s.eeprom);
   latches = latches.fresh;
   fifo = empty;
   gathered = [];

@@ -1,5 +1,5 @@
 -- What a record tells of the state before the event, without being put back.
-use Rattle.std.specs.Prelude.{◌≡◌, ℕ, ◌+◌, ◌-◌, Bool, false, if◌then◌else◌, List, [], ◌∷◌, length, unwrap_or}
+use Rattle.std.specs.Prelude.{◌≡◌, ℕ, ◌+◌, ◌-◌, Bool, true, false, if◌then◌else◌, List, [], ◌∷◌, length, unwrap_or, bit_or}
 use Rattle.std.specs.Prelude.{◌≤◌, IfSome, Option, None, Some}
 use Rattle.em_mem.specs.Extent as extent
 use Rattle.em_mem.specs.Extent.{SameUpTo}
@@ -83,9 +83,13 @@ abbrev pub link_before : Changed → Bool → Bool
 link_before (Link old) now = old
 link_before effect now = now
 
--- of STATUS, which follows the link
+-- of STATUS, in which LU, bit 1, follows the link
+abbrev pub with_link : Bool → ℕ → ℕ
+with_link true now = bit_or now 0x2
+with_link false now = latches.without now 0x2
+
 abbrev pub status_before : Changed → ℕ → ℕ
-status_before (Link old) now = if old then 0x83 else 0x81
+status_before (Link old) now = with_link old now
 status_before effect now = now
 
 -- of EECD

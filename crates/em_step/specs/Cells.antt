@@ -99,7 +99,7 @@ cells_without k c = record c { wire = let_go k c.wire }
 -- EEPROM: as after a reset, with the link down, no frame on the wire, and pins and PHY as at power on
 abbrev pub fresh_as : Profile → ℕ → ℕ → List ℕ → Cells
 fresh_as profile base size eeprom = record {
-  registers = registers.reset (mac_of eeprom);
+  registers = registers.at_power_on profile (mac_of eeprom);
   latches = latches.fresh;
   fifo = rx.fresh;
   memory = memory.fresh base size;

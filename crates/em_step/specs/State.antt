@@ -129,9 +129,16 @@ state_code =
     })
     (λ _. refl)
 
--- STATUS follows the link: FD and SPEED 10b, and LU where it is up
+-- STATUS follows the link: FD and SPEED 10b, and LU where it is up. In the second profile bits 31, 19, 10 and ASDV, bits
+-- 9:8, are set too
+abbrev pub status_of : Profile → Bool → ℕ
+status_of Table true = 0x83
+status_of Table false = 0x81
+status_of Adapter true = 0x8008_0783
+status_of Adapter false = 0x8008_0781
+
 abbrev pub status : State → ℕ
-status s = if s.link then 0x83 else 0x81
+status s = status_of s.profile s.link
 
 -- the octets of the first k frames that were sent are let go
 abbrev pub without_frames : ℕ → State → State

@@ -10,7 +10,7 @@ ghost use Rattle.em_latch.specs.Latches.{is_latched, IsLatched, IsAsserted};
 ghost use Rattle.em_pins.specs.Pins.{eecd};
 ghost use Rattle.em_rx.specs.Fifo.{first, last, octets_in};
 ghost use Rattle.em_rx.specs.StoredFrame.{LiesSo};
-ghost use Rattle.em_step.specs.State.{status};
+ghost use Rattle.em_step.specs.State.{status, status_of};
 ghost use Rattle.em_step.specs.Access.{gives, after_write_by, after_eerd_write, after_phy_command};
 ghost use Rattle.em_step.specs.Access.{after_pins_write, command_cause, is_reset_by, reset};
 ghost use Rattle.em_step.specs.Cells.{cells_without, fresh, fresh_as, shows, MorePages};
@@ -139,7 +139,8 @@ impl Adapter {
         let Ok(fifo) = Fifo::new(alloc) else {
             return Err(MemRefusal::Memory);
         };
-        let Ok(registers) = Box::new(alloc, RegFile::reset(eeprom.mac())) else {
+        let start = RegFile::at_power_on(profile, eeprom.mac());
+        let Ok(registers) = Box::new(alloc, start) else {
             return Err(MemRefusal::Memory);
         };
         let spare_resets = Spares::new(alloc)?;
@@ -644,11 +645,11 @@ impl Adapter {
         self.pins.read(&self.eeprom)
     }
 
-    /// What STATUS gives (this project's profile): full duplex, 1,000 Mb/s, and whether the link is up.
+    /// What STATUS gives: full duplex, 1,000 Mb/s, and whether the link is up.
     fn status(&self) -> u32
         ensures { result ≡ status (shows self.now) }
     {
-        status_of(self.link)
+        status_of(self.profile, self.link)
     }
 
     /// Resets the registers and latches, and empties the FIFO and the gathered octets. The place that keeps
@@ -672,7 +673,8 @@ impl Adapter {
     {
         let mut kept = place;
         let before = &mut *kept;
-        before.registers.reset_in_place(self.eeprom.mac());
+        let (profile, mac) = (self.profile, self.eeprom.mac());
+        before.registers.reset_from(&self.registers, profile, mac);
         std::mem::swap(&mut self.registers, &mut before.registers);
         before.latches = std::mem::replace(&mut self.latches, Latches::new());
         before.places = self.fifo.empty_out();
@@ -689,7 +691,10 @@ impl Adapter {
             return Ok(kept);
         }
         let fresh = BeforeReset {
-            registers: Box::new(self.alloc, RegFile::reset(self.eeprom.mac()))?,
+            registers: Box::new(
+                self.alloc,
+                RegFile::at_power_on(self.profile, self.eeprom.mac()),
+            )?,
             latches: Latches::new(),
             places: Places::none(),
             gathered: TxUndo::Nothing,
@@ -724,13 +729,19 @@ fn command_cause(value: u32) -> u32
     }
 }
 
-/// STATUS, which follows the link.
-pub(crate) fn status_of(link: bool) -> u32
-    ensures { result ≡ (if link then 0x83 else 0x81) }
+/// STATUS, which follows the link (this project's profile).
+fn status_of(profile: Profile, link: bool) -> u32
+    ensures { result ≡ status_of profile link }
 {
     let mut status = Status::FD.union(Status::SPEED_1000);
     if link {
         status.insert(Status::LU);
     }
-    status.bits()
+    match profile {
+        Profile::Table => status.bits(),
+        Profile::Adapter => status.bits() | STATUS_BESIDE,
+    }
 }
+
+/// The other bits of STATUS that the second profile has set, as QEMU's model has: bits 31, 19 and 10, and ASDV.
+const STATUS_BESIDE: u32 = 0x8008_0700;

@@ -13,11 +13,11 @@ ghost use Rattle.em_step.specs.Before.{latched_before, link_before, next_octet, 
 ghost use Rattle.em_step.specs.Before.{mdic_before, pins_before, status_before, stored_before};
 ghost use Rattle.em_step.specs.Undo.{IsPlaced, held, past_of, word};
 
-use crate::adapter::status_of;
 use crate::packed::{address_in, piece_of, place_in};
 use crate::undo::{Effect, HEAD_OCTETS, Record};
+use bitflags::Flags;
 use em_mem::{OldOctets, Range, Saved, lay_both_over, next_in};
-use em_regs::{Kind, Reg, RegUndo};
+use em_regs::{Kind, Reg, RegUndo, Status};
 use std::alloc::AllocError;
 use std::marker::Model;
 
@@ -245,7 +245,8 @@ impl<'a> Past<'a> {
         ensures { result ≡ status_before self.now.effect now }
     {
         match &self.record.effect {
-            Effect::Link(up) => status_of(*up),
+            Effect::Link(true) => now | Status::LU.bits(),
+            Effect::Link(false) => now & !Status::LU.bits(),
             _ => now,
         }
     }

@@ -4,8 +4,8 @@ ghost use Rattle.std.specs.Prelude.{length, take};
 ghost use Rattle.em_mem.specs.Needs.{AgreeOn};
 ghost use Rattle.em_regs.specs.declared.profile.Profile.{Profile};
 ghost use Rattle.em_regs.specs.declared.reg.Reg.{Reg};
-ghost use Rattle.em_regs.specs.Table.{IsReg};
-ghost use Rattle.em_regs.specs.RegFile.{address_low, address_high, eerd_value, put_eerd};
+ghost use Rattle.em_regs.specs.Table.{is_stored, offset_of};
+ghost use Rattle.em_regs.specs.RegFile.{IsStored, address_low, address_high, eerd_value, left_at, put_eerd};
 ghost use Rattle.em_regs.specs.Setup.{rx_setup, tx_setup, value_of};
 ghost use Rattle.em_eeprom.specs.Eeprom.{IsEeprom, mac_of};
 ghost use Rattle.em_filter.specs.Bits.{lpe, vme};
@@ -39,11 +39,14 @@ pub fn costs_are_small()
     ensures { (s : State) (e : Event) (r : Answer × State) → step s e ≡ Ok r → cost s e ≤ most_cost }
 {}
 
-/// After a reset every register reads 0 but STATUS, which follows the link, the first receive address, which is the
-/// EEPROM's and valid, and EECD and MDIC, which stay.
-pub fn a_reset_leaves_zeros()
-    ensures zero { (s : State) (reg : Reg) → IsReg reg →
-        reg ≢ Reg.Status → reg ≢ Reg.Eecd → reg ≢ Reg.Mdic → reg ≢ Reg.Ral 0 → reg ≢ Reg.Rah 0 → gives (reset s) reg ≡ 0 }
+/// After a reset every register that keeps what is written has its start value, but the first receive address, which is
+/// the EEPROM's and valid: 0 in the first profile, and in the second PBA keeps what it held. Every other register reads
+/// 0, but STATUS, which follows the link, and EECD and MDIC, which stay.
+pub fn a_reset_leaves_start_values()
+    ensures stored { (s : State) (reg : Reg) → IsStored reg → reg ≢ Reg.Ral 0 → reg ≢ Reg.Rah 0 →
+        gives (reset s) reg ≡ left_at s.profile s.registers (offset_of reg) }
+    ensures zero { (s : State) (reg : Reg) → is_stored reg ≡ false →
+        reg ≢ Reg.Status → reg ≢ Reg.Eecd → reg ≢ Reg.Mdic → gives (reset s) reg ≡ 0 }
     ensures status { (s : State) → gives (reset s) Reg.Status ≡ status s }
     ensures pins { (s : State) → gives (reset s) Reg.Eecd ≡ gives s Reg.Eecd }
     ensures phy { (s : State) → gives (reset s) Reg.Mdic ≡ gives s Reg.Mdic }

@@ -1,5 +1,5 @@
 -- No event goes by registers and bits that have no rule.
-use Rattle.std.proofs.Common.{◌≡◌, ◌∙◌, ◌==◌, ◌&&◌, ◌||◌, ℕ, ◌+◌, ◌*◌, ◌/◌, ◌%◌, ◌^◌, Bool, true, false, not}
+use Rattle.std.proofs.Common.{◌≡◌, ◌≢◌, ◌∙◌, arith, ◌==◌, ◌&&◌, ◌||◌, ℕ, ◌+◌, ◌*◌, ◌/◌, ◌%◌, ◌^◌, Bool, true, false, not}
 use Rattle.std.proofs.Common.{List, [], ◌∷◌, length, map, filter, refl, sym, ap, subst, Option, Some, None, Ok, Err}
 use Rattle.std.proofs.Common.{Result, cond, if◌then◌else◌, slice_index, nat_le, nat_lt}
 use Rattle.std.specs.Prelude.{bit_and}
@@ -8,7 +8,9 @@ use Rattle.std.specs.Ordering.{nat_cmp, eq_by_cmp}
 use Rattle.std.specs.List.{list_any, range_with_len}
 use Rattle.em_mem.specs.Memory as memory
 use Rattle.em_regs.specs.declared.reg.Reg.{Reg}
-use Rattle.em_regs.specs.declared.reg.Reg.TheVariants.{Ctrl, Eerd, Rctl, Vet, Rdbal, Rdbah, Rdlen, Rdh, Rdt}
+use Rattle.em_regs.specs.declared.profile.Profile.{Profile}
+use Rattle.em_regs.specs.declared.profile.Profile.TheVariants.{Table, Adapter}
+use Rattle.em_regs.specs.declared.reg.Reg.TheVariants.{Ctrl, Eerd, Pba, Rctl, Vet, Rdbal, Rdbah, Rdlen, Rdh, Rdt}
 use Rattle.em_regs.specs.declared.reg.Reg.TheVariants.{Tctl, Tdbal, Tdbah, Tdlen, Tdh, Tdt, Mta, Ral, Rah, Vfta}
 use Rattle.em_regs.specs.RegFile as registers
 use Rattle.em_regs.specs.RegFile.{at}
@@ -18,7 +20,7 @@ use Rattle.em_regs.specs.Table.{answers_at, mask_in, mask_of, offset_of, reg_of,
 use Rattle.em_regs.specs.declared.table.Kind.{Kind}
 use Rattle.em_regs.specs.declared.table.Kind.TheVariants.{Stored as StoredKind, Control, EepromRead, Status, Interrupt, Counter}
 use Rattle.em_regs.specs.declared.table.Kind.TheVariants.{EepromPins, PhyCommand, Uncounted}
-use Rattle.em_regs.proofs.Entries.{at-insert}
+use Rattle.em_regs.proofs.Entries.{at-insert, at-insert_other}
 use Rattle.em_latch.specs.Latches as latches
 use Rattle.em_eeprom.specs.Eeprom.{mac_of, word_at}
 use Rattle.em_filter.specs.Address.{accepts, is_in_table}
@@ -107,40 +109,60 @@ kept : {X : Type 0} (g : ℕ → X) (m n : Registers) (o v q : ℕ) → g (at n 
 kept g m n o v q h =
     ap g (at-insert n o v q) ∙ chosen g (eq_by_cmp nat_cmp q o) v (at m q) (at n q) h ∙ sym (ap g (at-insert m o v q))
 
+-- what is read of a word stays the same, but of PBA's
+abbrev StaysSame : Registers → Registers → Registers → Registers → Type 1
+StaysSame m n k l =
+    (X : Type 0) → (g : ℕ → X) → (q : ℕ) → q ≢ offset_of Pba → g (at n q) ≡ g (at m q) → g (at l q) ≡ g (at k q)
+
+agree_by : (m n k l : Registers) → StaysSame m n k l → AgreeInRules m n → AgreeInRules k l
+agree_by m n k l f h = record {
+  vme = f _ (λ x. has x (2 ^ 30)) (offset_of Ctrl) (λ e. omega arith) h.vme;
+  en = f _ (λ x. has x 0x2) (offset_of Rctl) (λ e. omega arith) h.en;
+  upe = f _ (λ x. has x (2 ^ 3)) (offset_of Rctl) (λ e. omega arith) h.upe;
+  mpe = f _ (λ x. has x (2 ^ 4)) (offset_of Rctl) (λ e. omega arith) h.mpe;
+  lpe = f _ (λ x. has x (2 ^ 5)) (offset_of Rctl) (λ e. omega arith) h.lpe;
+  rdmts = f _ (λ x. x / 2 ^ 8 % 4) (offset_of Rctl) (λ e. omega arith) h.rdmts;
+  mo = f _ (λ x. x / 2 ^ 12 % 4) (offset_of Rctl) (λ e. omega arith) h.mo;
+  bam = f _ (λ x. has x (2 ^ 15)) (offset_of Rctl) (λ e. omega arith) h.bam;
+  bsize = f _ (λ x. x / 2 ^ 16 % 4) (offset_of Rctl) (λ e. omega arith) h.bsize;
+  vfe = f _ (λ x. has x (2 ^ 18)) (offset_of Rctl) (λ e. omega arith) h.vfe;
+  bsex = f _ (λ x. has x 0x0200_0000) (offset_of Rctl) (λ e. omega arith) h.bsex;
+  secrc = f _ (λ x. has x 0x0400_0000) (offset_of Rctl) (λ e. omega arith) h.secrc;
+  tx_en = f _ (λ x. has x 0x2) (offset_of Tctl) (λ e. omega arith) h.tx_en;
+  psp = f _ (λ x. has x 0x8) (offset_of Tctl) (λ e. omega arith) h.psp;
+  vet = f _ (λ x. x) (offset_of Vet) (λ e. omega arith) h.vet;
+  rdbal = f _ (λ x. x) (offset_of Rdbal) (λ e. omega arith) h.rdbal;
+  rdbah = f _ (λ x. x) (offset_of Rdbah) (λ e. omega arith) h.rdbah;
+  rdlen = f _ (λ x. x) (offset_of Rdlen) (λ e. omega arith) h.rdlen;
+  rdh = f _ (λ x. x) (offset_of Rdh) (λ e. omega arith) h.rdh;
+  rdt = f _ (λ x. x) (offset_of Rdt) (λ e. omega arith) h.rdt;
+  tdbal = f _ (λ x. x) (offset_of Tdbal) (λ e. omega arith) h.tdbal;
+  tdbah = f _ (λ x. x) (offset_of Tdbah) (λ e. omega arith) h.tdbah;
+  tdlen = f _ (λ x. x) (offset_of Tdlen) (λ e. omega arith) h.tdlen;
+  tdh = f _ (λ x. x) (offset_of Tdh) (λ e. omega arith) h.tdh;
+  tdt = f _ (λ x. x) (offset_of Tdt) (λ e. omega arith) h.tdt;
+  mta = λ i. f _ (λ x. x) (offset_of (Mta i)) (λ e. omega (arith, e)) (h.mta i);
+  ral = λ i. f _ (λ x. x) (offset_of (Ral i)) (λ e. omega (arith, e)) (h.ral i);
+  rah = λ i. f _ (λ x. x) (offset_of (Rah i)) (λ e. omega (arith, e)) (h.rah i);
+  vfta = λ i. f _ (λ x. x) (offset_of (Vfta i)) (λ e. omega (arith, e)) (h.vfta i);
+}
+
 agree_on : (m n : Registers) (o v : ℕ) → AgreeInRules m n → AgreeInRules (insert m o v) (insert n o v)
-agree_on m n o v h =
-    let whole = λ (reg : Reg) (e : value_of n reg ≡ value_of m reg). kept (λ x. x) m n o v (offset_of reg) e in
-    record {
-      vme = kept (λ x. has x (2 ^ 30)) m n o v (offset_of Ctrl) h.vme;
-      en = kept (λ x. has x 0x2) m n o v (offset_of Rctl) h.en;
-      upe = kept (λ x. has x (2 ^ 3)) m n o v (offset_of Rctl) h.upe;
-      mpe = kept (λ x. has x (2 ^ 4)) m n o v (offset_of Rctl) h.mpe;
-      lpe = kept (λ x. has x (2 ^ 5)) m n o v (offset_of Rctl) h.lpe;
-      rdmts = kept (λ x. x / 2 ^ 8 % 4) m n o v (offset_of Rctl) h.rdmts;
-      mo = kept (λ x. x / 2 ^ 12 % 4) m n o v (offset_of Rctl) h.mo;
-      bam = kept (λ x. has x (2 ^ 15)) m n o v (offset_of Rctl) h.bam;
-      bsize = kept (λ x. x / 2 ^ 16 % 4) m n o v (offset_of Rctl) h.bsize;
-      vfe = kept (λ x. has x (2 ^ 18)) m n o v (offset_of Rctl) h.vfe;
-      bsex = kept (λ x. has x 0x0200_0000) m n o v (offset_of Rctl) h.bsex;
-      secrc = kept (λ x. has x 0x0400_0000) m n o v (offset_of Rctl) h.secrc;
-      tx_en = kept (λ x. has x 0x2) m n o v (offset_of Tctl) h.tx_en;
-      psp = kept (λ x. has x 0x8) m n o v (offset_of Tctl) h.psp;
-      vet = whole Vet h.vet;
-      rdbal = whole Rdbal h.rdbal;
-      rdbah = whole Rdbah h.rdbah;
-      rdlen = whole Rdlen h.rdlen;
-      rdh = whole Rdh h.rdh;
-      rdt = whole Rdt h.rdt;
-      tdbal = whole Tdbal h.tdbal;
-      tdbah = whole Tdbah h.tdbah;
-      tdlen = whole Tdlen h.tdlen;
-      tdh = whole Tdh h.tdh;
-      tdt = whole Tdt h.tdt;
-      mta = λ i. whole (Mta i) (h.mta i);
-      ral = λ i. whole (Ral i) (h.ral i);
-      rah = λ i. whole (Rah i) (h.rah i);
-      vfta = λ i. whole (Vfta i) (h.vfta i);
-    }
+agree_on m n o v h = agree_by m n (insert m o v) (insert n o v) (λ x g q other e. kept g m n o v q e) h
+
+-- no rule goes by PBA
+agree_in_pba : (m : Registers) (v w : ℕ) → AgreeInRules (insert m (offset_of Pba) v) (insert m (offset_of Pba) w)
+agree_in_pba m v w =
+    agree_by m m (insert m (offset_of Pba) v) (insert m (offset_of Pba) w)
+    (λ x g q other e. ap g (at-insert_other m (offset_of Pba) w q other ∙ sym (at-insert_other m (offset_of Pba) v q other)))
+    (agree_same m)
+
+-- registers that are reset keep nothing but PBA
+agree_reset : (p : Profile) (m n : Registers) (mac : List ℕ)
+    → AgreeInRules (registers.after_reset p m mac) (registers.after_reset p n mac)
+agree_reset Table m n mac = agree_same (registers.at_power_on Table mac)
+agree_reset Adapter m n mac =
+    agree_in_pba (registers.at_power_on Adapter mac) (at m (offset_of Pba)) (at n (offset_of Pba))
 
 -- ---- what goes by the registers
 
@@ -231,7 +253,7 @@ control_alike : (s : State) (n : Registers) (reg : Reg) (v : ℕ) (resets : Bool
     → Alike (Ok (Done, if resets then reset s else after_store s reg v))
     (Ok (Done, if resets then reset (with_registers s n) else after_store (with_registers s n) reg v))
 control_alike s n reg v true h =
-    (refl, (registers.reset (mac_of s.eeprom), refl, agree_same (registers.reset (mac_of s.eeprom))))
+    (refl, (registers.after_reset s.profile n (mac_of s.eeprom), refl, agree_reset s.profile s.registers n (mac_of s.eeprom)))
 control_alike s n reg v false h = store_alike s n reg v h
 
 -- by the kind of the register's row

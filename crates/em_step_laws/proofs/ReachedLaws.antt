@@ -1,5 +1,5 @@
 -- The receive ring of a state that an adapter comes to.
-use Rattle.std.proofs.Common.{◌≡◌, ◌≢◌, ◌⊎◌, ◌≤◌, ℕ, Bool, true, false, List, [], ◌∷◌, inl, inr, refl, sym, subst}
+use Rattle.std.proofs.Common.{◌≡◌, ◌≢◌, ◌∙◌, ◌⊎◌, ◌≤◌, ℕ, Bool, true, false, List, [], ◌∷◌, inl, inr, refl, sym, subst}
 use Rattle.std.proofs.Common.{arith, length, nat_lt, not, ◌||◌, ◌==◌, if◌then◌else◌, Option, Some, None}
 use Rattle.std.proofs.Common.{Result, Ok, Err}
 use Rattle.std.proofs.lemmas.Nat.{and_le_r}
@@ -10,9 +10,10 @@ use Rattle.em_regs.specs.declared.reg.Reg.TheVariants.{Eerd, Rdh, Rdlen, Tdh}
 use Rattle.em_regs.specs.declared.table.Kind.{Kind}
 use Rattle.em_regs.specs.declared.table.Kind.TheVariants.{Stored as StoredKind, Control, EepromRead}
 use Rattle.em_regs.specs.declared.profile.Profile.{Profile}
+use Rattle.em_regs.specs.declared.profile.Profile.TheVariants.{Table, Adapter}
 use Rattle.em_regs.specs.Table.{answers_at, mask_in, offset_of, reg_of, row_of}
 use Rattle.em_regs.specs.RegFile as registers
-use Rattle.em_regs.specs.RegFile.{put, put_in, put_eerd, eerd_value}
+use Rattle.em_regs.specs.RegFile.{put, put_in, put_eerd, eerd_value, left_at}
 use Rattle.em_regs.specs.Setup.{rx_setup, value_of}
 use Rattle.em_regs.specs.Storage.{Registers}
 use Rattle.em_regs.proofs.Entries.{at-insert_other}
@@ -45,7 +46,7 @@ use Rattle.em_step.specs.declared.event.Answer.{Answer}
 use Rattle.em_step.specs.declared.event.Answer.TheVariants.{Done, Dropped, Stored, Value}
 use Rattle.em_step.specs.declared.event.Reason.TheVariants.{Disabled, Down, Missed}
 use Rattle.em_step.specs.declared.refusal.Refusal.TheVariants.{Length, NoRegister, Range}
-use Rattle.em_step.proofs.ResetLaws.{stored_zero}
+use Rattle.em_regs.proofs.ResetLaws.{left_by_reset, reset_again}
 use Rattle.em_step.proofs.SetupLaws.{put_same}
 
 -- RDLEN has no bit that its row does not keep
@@ -77,11 +78,19 @@ eerd_keeps : (m : Registers) (a w : ℕ) → KeepsLength m → KeepsLength (put_
 eerd_keeps m a w few =
     subst (λ n. n ≤ 0xF_FF80) (sym (at-insert_other m (offset_of Eerd) (eerd_value a w) 0x02808 (λ e. omega arith))) few
 
-reset_keeps : (mac : List ℕ) → KeepsLength (registers.reset mac)
-reset_keeps mac =
-    let none : value_of (registers.reset mac) Rdlen ≡ 0
-    = stored_zero mac 0x02808 (λ e. omega arith) (λ e. omega arith) in
+-- a reset leaves 0 in RDLEN
+none_left : (p : Profile) (m : Registers) → left_at p m 0x02808 ≡ 0
+none_left Table m = refl
+none_left Adapter m = refl
+
+reset_keeps : (p : Profile) (m : Registers) (mac : List ℕ) → KeepsLength (registers.after_reset p m mac)
+reset_keeps p m mac =
+    let none : value_of (registers.after_reset p m mac) Rdlen ≡ 0
+    = left_by_reset p m mac 0x02808 (λ e. omega arith) (λ e. omega arith) ∙ none_left p m in
     omega (arith, none)
+
+start_keeps : (p : Profile) (mac : List ℕ) → KeepsLength (registers.at_power_on p mac)
+start_keeps p mac = subst KeepsLength (reset_again p mac) (reset_keeps p (registers.at_power_on p mac) mac)
 
 either_keeps : (b : Bool) (s t : State) → KeepsLength s.registers → KeepsLength t.registers
     → KeepsLength (if b then s else t).registers
@@ -92,7 +101,7 @@ write_keeps : (kind : Kind) (s : State) (reg : Reg) (v : ℕ) → KeepsLength s.
     → KeepsLength (after_write_by kind s reg v).registers
 write_keeps StoredKind s reg v few = put_keeps s.profile s.registers reg v few
 write_keeps Control s reg v few =
-    either_keeps (is_reset_by Control v) (reset s) (after_store s reg v) (reset_keeps (mac_of s.eeprom))
+    either_keeps (is_reset_by Control v) (reset s) (after_store s reg v) (reset_keeps s.profile s.registers (mac_of s.eeprom))
     (put_keeps s.profile s.registers reg v few)
 write_keeps EepromRead s reg v few =
     either_keeps (has v 0x1) (after_eeprom_read s (eerd_address v)) (after_store s Eerd v)
@@ -195,5 +204,6 @@ performed_keeps (e ∷ events) s t few is =
 pub few_reached : (s : State) → IsReached s → (rx_setup s.registers).count ≤ 65_536
 few_reached s is =
     let few : KeepsLength s.registers
-    = performed_keeps is.events (shows (fresh_as is.profile is.base is.size is.eeprom)) s (reset_keeps (mac_of is.eeprom)) is.performed in
+    = performed_keeps is.events (shows (fresh_as is.profile is.base is.size is.eeprom)) s
+    (start_keeps is.profile (mac_of is.eeprom)) is.performed in
     omega (arith, few)

@@ -12,7 +12,7 @@ use Rattle.em_step.specs.State.{State}
 use Rattle.em_step.specs.Step.{step}
 use Rattle.em_step.specs.declared.event.Answer.TheVariants.{Done}
 use Rattle.em_step.proofs.ProfileLaws.{event_keeps}
-use Rattle.em_step.proofs.ResetLaws.{zero_after_reset}
+use Rattle.em_step.proofs.ResetLaws.{zero_in_table}
 use Rattle.em_turn.specs.Turn.{event_of}
 use Rattle.em_driver.specs.Course.{done, write, Follows}
 use Rattle.em_driver.specs.Driven.{IsGoodFor}
@@ -58,10 +58,10 @@ masked base end s t stored h is =
 
 is_off : (s : State) → s.profile ≡ Table → IsOff (reset_of s)
 is_off s first = record {
-  rctl = zero_after_reset s Rctl (omega arith) (λ e. cc) (λ e. cc) (λ e. cc) (λ e. cc) (λ e. cc);
-  tctl = zero_after_reset s Tctl (omega arith) (λ e. cc) (λ e. cc) (λ e. cc) (λ e. cc) (λ e. cc);
+  rctl = zero_in_table s Rctl first (omega arith, refl) (λ e. cc) (λ e. cc);
+  tctl = zero_in_table s Tctl first (omega arith, refl) (λ e. cc) (λ e. cc);
   untagged = ap (λ v. bit_and v 0x4000_0000 == 0x4000_0000)
-      (zero_after_reset s Ctrl (omega arith) (λ e. cc) (λ e. cc) (λ e. cc) (λ e. cc) (λ e. cc));
+      (zero_in_table s Ctrl first (omega arith, refl) (λ e. cc) (λ e. cc));
   profile = first;
   fifo = refl;
   gathered = refl;
