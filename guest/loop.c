@@ -66,8 +66,8 @@ void loop_look(void *whose) {
 }
 
 static void arrive(struct guest *guest, const uint8_t *frame, size_t length) {
-  capture(guest, frame, length);
   if (device_loops(&guest->session.device)) return;
+  capture(guest, frame, length);
   device_arrive(&guest->session.device, frame, length);
   session_turn(&guest->session);
   loop_look(guest);

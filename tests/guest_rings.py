@@ -277,6 +277,44 @@ def waiting(tally: Tally, room: Path) -> None:
     own.close()
 
 
+def looping(tally: Tally, room: Path) -> None:
+    """What is sent in loopback comes back, by RCTL.LBM and by the PHY's word 0, and nothing comes from the wire."""
+    wire = room / "looping-wire"
+    own = socket.socket(socket.AF_UNIX, socket.SOCK_DGRAM)
+    own.bind(str(wire))
+    guest = Guest(room, "looping", "--profile", "adapter", "--net", f"unix:{wire}.guest:{wire}")
+    qemu = guest.qemu()
+    qemu.boot()
+    set_up_rings(qemu, 0)
+    frames, seen = [FRAME[:14] + bytes([i]) * (50 + i) for i in range(3)], {}
+    # SECRC, and then LBM; the PHY's loopback; neither
+    settings = ((0x0100, RECEIVING | 1 << 26 | 1 << 6), (0x0020, 0x04204140), (0x0020, 0x04201140))
+    for i, (offset, value) in enumerate(settings):
+        if i == 1:
+            qemu.write(0x0100, RECEIVING | 1 << 26)
+        qemu.write(offset, value)
+        own.sendto(bytes(60), str(wire) + ".guest") if i < 2 else None
+        qemu.poke(0x20000 + 0x1000 * i, frames[i])
+        qemu.poke(0x2000 + 16 * i, transmit_descriptor(0x20000 + 0x1000 * i, len(frames[i])))
+        qemu.write(0x3818, i + 1)
+        if i < 2:
+            seen[f"it came back, {i}"] = (until(lambda: qemu.read(0x2810) == i + 1), True)
+            seen[f"its octets, {i}"] = (qemu.peek(0x10000 + 0x1000 * i, len(frames[i])), frames[i])
+    own.settimeout(60)
+    seen["on the wire"] = (own.recv(2000), frames[2])
+    own.settimeout(0.3)
+    try:
+        seen["nothing else"] = (own.recv(2000), b"")
+    except TimeoutError:
+        pass
+    seen["RDH"] = (qemu.read(0x2810), 2)
+    tally.check("loopback", differ(seen))
+    qemu.close()
+    ended(tally, "loopback, the end", guest, 0, "2 frames arrived, 0 were dropped, 3 were sent")
+    counted_run(tally, "loopback, played again", guest.kept, 10)
+    own.close()
+
+
 def again(tally: Tally, room: Path) -> None:
     """A machine that is reset while frames wait, and boots again: nothing of before is left."""
     guest = Guest(room, "again")
@@ -301,4 +339,4 @@ def again(tally: Tally, room: Path) -> None:
     counted_run(tally, "boots, played again", guest.kept, 6)
 
 
-PARTS = (rings, standing_still, across, overlaid, received_across, many, lasting, waiting, again)
+PARTS = (rings, standing_still, across, overlaid, received_across, many, lasting, waiting, looping, again)

@@ -234,6 +234,36 @@ def accepts(s: State, frame: bytes) -> bool:
                 or (is_broadcast and rctl >> 15 & 1) or (is_group and in_hash))
 
 
+def is_control(frame: bytes) -> bool:
+    return frame[12:14] == b"\x88\x08" and len(frame) >= 16
+
+
+def is_pause(frame: bytes) -> bool:
+    return is_control(frame) and frame[14:16] == b"\x00\x01"
+
+
+def is_taken_besides(s: State, frame: bytes) -> bool:
+    """Whether the second profile takes a frame by its source, or as a MAC control frame."""
+    if not s.is_second:
+        return False
+    source = int.from_bytes(frame[6:12], "little")
+    for i in range(0, 16):
+        high = s.at(0x5404 + 8 * i)
+        if high >> 31 and high >> 16 & 3 == 1 and source == s.at(0x5400 + 8 * i) | (high & 0xFFFF) << 32:
+            return True
+    return bool(s.at(RCTL) >> 23 & 1) and is_control(frame) and not is_pause(frame)
+
+
+def passes_besides(s: State, frame: bytes) -> bool:
+    """Whether a frame passes by its CFI, and is no pause frame that is discarded: the second profile looks at both."""
+    rctl = s.at(RCTL)
+    if not s.is_second:
+        return True
+    if rctl >> 19 & 1 and has_vlan_type(s, frame) and frame[14] >> 4 & 1 != rctl >> 20 & 1:
+        return False
+    return not (rctl >> 22 & 1 and is_pause(frame))
+
+
 def has_vlan_type(s: State, frame: bytes) -> bool:
     return len(frame) >= 16 and int.from_bytes(frame[12:14], "big") == s.at(VET)
 
@@ -261,14 +291,15 @@ def arrive(s: State, frame: bytes) -> tuple[str, int]:
         return "dropped disabled", 0
     count_total(s, TPR, TOR, counted)
     if not accepts(s, frame):
-        return "dropped rejected", 0
+        if not is_taken_besides(s, frame):
+            return "dropped rejected", 0
     if counted < 64:
         s.count(RUC)
         return "dropped undersize", 0
     if counted > (16384 if rctl & 0x20 else 1522):
         s.count(ROC)
         return "dropped oversize", 0
-    if not passes_vlan(s, frame):
+    if not passes_vlan(s, frame) or not passes_besides(s, frame):
         return "dropped rejected", 0
     stored, tag = frame, None
     if s.at(CTRL) >> 30 & 1 and has_vlan_type(s, frame):

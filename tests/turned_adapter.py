@@ -180,4 +180,32 @@ STARTED = [
     ("a reset leaves zeros", "        starts = STARTS | {0x1000: self.at(0x1000)} if self.is_second else {}\n",
      "        starts = STARTS if self.is_second and not self.kept else {}\n"),
 ]
-TURNED = [*STORED, *STARTED, *LOST_ACCESSES, *CHECK_SEQUENCE, *COSTS, *PINS, *PHY]
+FILTERED = [
+    ("a source is looked at in entries of destinations", "high >> 16 & 3 == 1 and source", "high >> 16 & 3 == 0 and source"),
+    ("a source is looked at in entries with AS 10", "high >> 16 & 3 == 1 and source", "high >> 16 & 3 in (1, 2) and source"),
+    ("a source is looked at in entries with AS 11", "high >> 16 & 3 == 1 and source", "high >> 16 & 1 and source"),
+    ("a source is looked at without AV", "high >> 31 and high >> 16 & 3 == 1", "high >> 16 & 3 == 1"),
+    ("sources have the destination's place", "source = int.from_bytes(frame[6:12]", "source = int.from_bytes(frame[:6]"),
+    ("sources have five octets", "and source == s.at(0x5400 + 8 * i) |", "and source >> 8 == s.at(0x5400 + 8 * i) >> 8 |"),
+    ("no source is accepted", "high >> 16 & 3 == 1 and source", "False and source"),
+    ("15 entries are of sources", "for i in range(0, 16):", "for i in range(0, 15):"),
+    ("CFIEN does nothing", "    if rctl >> 19 & 1 and has", "    if False and has"),
+    ("CFIEN is another bit", "    if rctl >> 19 & 1 and has", "    if rctl >> 18 & 1 and has"),
+    ("CFI acts by itself", "    if rctl >> 19 & 1 and has", "    if rctl >> 19 & 3 and has"),
+    ("CFI is another bit of the tag", "frame[14] >> 4 & 1 !=", "frame[14] >> 5 & 1 !="),
+    ("CFI is turned", "frame[14] >> 4 & 1 != rctl", "frame[14] >> 4 & 1 == rctl"),
+    ("frames without a tag have a CFI", "and has_vlan_type(s, frame) and frame[14]", "and frame[14]"),
+    ("DPF does nothing", "    return not (rctl >> 22 & 1 and is_pause(frame))", "    return True"),
+    ("DPF is another bit", "(rctl >> 22 & 1 and is_pause", "(rctl >> 23 & 1 and is_pause"),
+    ("DPF discards all MAC control frames", "(rctl >> 22 & 1 and is_pause(frame))", "(rctl >> 22 & 1 and is_control(frame))"),
+    ("a pause frame is known by an octet", 'frame[14:16] == b"\\x00\\x01"', 'frame[15:16] == b"\\x01"'),
+    ("a pause frame has any type", "    return is_control(frame) and frame[14:16]", "    return frame[14:16]"),
+    ("MAC control frames have another type", 'frame[12:14] == b"\\x88\\x08"', 'frame[12:14] == b"\\x08\\x08"'),
+    ("MAC control frames are known by an octet", 'frame[12:14] == b"\\x88\\x08"', 'frame[12:13] == b"\\x88"'),
+    ("PMCF does nothing", "    return bool(s.at(RCTL) >> 23 & 1) and is_control", "    return False and is_control"),
+    ("PMCF is another bit", "    return bool(s.at(RCTL) >> 23 & 1) and", "    return bool(s.at(RCTL) >> 22 & 1) and"),
+    ("PMCF takes pause frames", " and is_control(frame) and not is_pause(frame)\n", " and is_control(frame)\n"),
+    ("PMCF takes every frame", " >> 23 & 1) and is_control(frame) and not is_pause(frame)\n", " >> 23 & 1)\n"),
+    ("a frame that is too short is taken by its source", "    if counted < 64:\n", "    if counted < 64 and accepts(s, frame):\n"),
+]
+TURNED = [*STORED, *STARTED, *FILTERED, *LOST_ACCESSES, *CHECK_SEQUENCE, *COSTS, *PINS, *PHY]

@@ -634,7 +634,11 @@ typedef enum em_rule {
   EM_WHY_TX_EXTENDED = 28, /* a transmit step was refused: the descriptor at TDH is extended (DEXT) */
   EM_WHY_TX_TOO_LONG = 29, /* a transmit step was refused: the buffers of the frame hold more than 16,380 octets */
   EM_WHY_TX_BUFFER = 30, /* a transmit step was refused: the buffer of the descriptor at TDH leaves guest memory */
-  EM_WHY_MEMORY = 31 /* an event was refused: the host gave no memory */
+  EM_WHY_MEMORY = 31, /* an event was refused: the host gave no memory */
+  EM_WHY_FRAME_CONTROL = 32, /* a frame was dropped: it is a MAC control frame, no filter has its destination, and
+                                RCTL.PMCF is clear */
+  EM_WHY_FRAME_CFI = 33, /* a frame was dropped: the CFI of its tag is not RCTL.CFI */
+  EM_WHY_FRAME_PAUSE = 34 /* a frame was dropped: it is a pause frame, and RCTL.DPF is set */
 } em_rule;
 
 /* Why an event did nothing. A number that the rule has not is 0. */

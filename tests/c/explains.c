@@ -150,6 +150,35 @@ static void explains_drops(void) {
   em_free(&machine);
 }
 
+static void explains_drops_of_the_second_profile(void) {
+  em_machine machine = {0};
+  uint8_t frame[64] = {0};
+  em_reason reason;
+  OK(em_make_as(&machine, EM_PROFILE_ADAPTER, 0, MEMORY, BUDGET, MAC));
+  OK(em_set_link(&machine, true));
+  OK(em_write(&machine, RCTL, RCTL_EN));
+  memcpy(frame, "\x01\x80\xC2\x00\x00\x01", 6);
+  memcpy(frame + 12, "\x88\x08\x00\x02", 4); /* a MAC control frame; bits 47 to 36 of its destination are 010h */
+  reason = why_frame(&machine, frame, 60, EM_REJECTED);
+  CHECK(reason.rule == EM_WHY_FRAME_CONTROL && reason.value == 0x010 && memcmp(reason.to, frame, 6) == 0);
+  CHECK(has_line(reason.text, "a MAC control frame to 01:80:C2:00:00:01, which is in no filter (PMCF is clear)"));
+  OK(em_write(&machine, RCTL, RCTL_EN | 1 << 4 | 1 << 22)); /* MPE and DPF */
+  frame[15] = 1;
+  reason = why_frame(&machine, frame, 60, EM_REJECTED);
+  CHECK(reason.rule == EM_WHY_FRAME_PAUSE && reason.value == 0 && has_line(reason.text, "a pause frame (DPF is set)"));
+  OK(em_write(&machine, RCTL, RCTL_EN | 1 << 4 | 1 << 19)); /* MPE and CFIEN */
+  memcpy(frame + 12, "\x81\x00\x10\x05", 4);
+  reason = why_frame(&machine, frame, 60, EM_REJECTED);
+  CHECK(reason.rule == EM_WHY_FRAME_CFI && reason.value == 1);
+  CHECK(has_line(reason.text, "the CFI of its tag is 1 (CFIEN is set, CFI is clear)"));
+  OK(em_write(&machine, RCTL, RCTL_EN | 1 << 4 | 3 << 19)); /* and CFI */
+  frame[14] = 0;
+  reason = why_frame(&machine, frame, 60, EM_REJECTED);
+  CHECK(reason.rule == EM_WHY_FRAME_CFI && reason.value == 0);
+  CHECK(has_line(reason.text, "the CFI of its tag is 0 (CFIEN is set, CFI is set)"));
+  em_free(&machine);
+}
+
 /* ---- events that were refused */
 
 static void explains_refusals(void) {
@@ -605,6 +634,7 @@ static void tells_what_has_room(void) {
 int main(void) {
   explains_idle_steps();
   explains_drops();
+  explains_drops_of_the_second_profile();
   explains_refusals();
   explains_refused_steps();
   explains_memory_at_a_base();

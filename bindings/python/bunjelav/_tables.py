@@ -136,6 +136,9 @@ RULES = {
     29: "tx too long",
     30: "tx buffer",
     31: "memory",
+    32: "frame control",
+    33: "frame cfi",
+    34: "frame pause",
 }
 
 # by number, what each rule by which an access has a warning is called

@@ -217,7 +217,7 @@ pub enum Rule {
     FrameUndersize,
     /// A frame was dropped: it has more octets with the FCS than RCTL.LPE allows.
     FrameOversize,
-    /// A frame was dropped: its VLAN is not in VFTA, or its CFI is not let pass.
+    /// A frame was dropped: its VLAN is not in VFTA.
     FrameVlan,
     /// A frame was dropped: the FIFO has no room for it.
     FrameMissed,
@@ -243,12 +243,18 @@ pub enum Rule {
     TxBuffer,
     /// An event was refused: the host gave no memory.
     Memory,
+    /// A frame was dropped: it is a MAC control frame, no filter has its destination, and RCTL.PMCF is clear.
+    FrameControl,
+    /// A frame was dropped: the CFI of its tag is not RCTL.CFI.
+    FrameCfi,
+    /// A frame was dropped: it is a pause frame, and RCTL.DPF is set.
+    FramePause,
     /// Another number, which this binding does not know.
     Other(u32),
 }
 
 /// Each rule with its number.
-pub(crate) const RULES: [(Rule, u32); 32] = [
+pub(crate) const RULES: [(Rule, u32); 35] = [
     (Rule::NoRule, 0),
     (Rule::RxDisabled, 1),
     (Rule::RxNoRing, 2),
@@ -281,6 +287,9 @@ pub(crate) const RULES: [(Rule, u32); 32] = [
     (Rule::TxTooLong, 29),
     (Rule::TxBuffer, 30),
     (Rule::Memory, 31),
+    (Rule::FrameControl, 32),
+    (Rule::FrameCfi, 33),
+    (Rule::FramePause, 34),
 ];
 
 /// By which rule an access of a register has a warning.

@@ -9,6 +9,12 @@ destination f =
     slice_index f 0 + slice_index f 1 * 256 + slice_index f 2 * 256 ^ 2
     + slice_index f 3 * 256 ^ 3 + slice_index f 4 * 256 ^ 4 + slice_index f 5 * 256 ^ 5
 
+-- its source, the next six
+unfoldable pub source : List ℕ → ℕ
+source f =
+    slice_index f 6 + slice_index f 7 * 256 + slice_index f 8 * 256 ^ 2
+    + slice_index f 9 * 256 ^ 3 + slice_index f 10 * 256 ^ 4 + slice_index f 11 * 256 ^ 5
+
 -- broadcast where all six octets are FF, a group address where bit 0 of octet 0 is 1, and unicast otherwise
 unfoldable pub kind_of : ℕ → Kind
 kind_of a = if a == 0xFFFF_FFFF_FFFF then Broadcast else if (a % 2) == 1 then Multicast else Unicast

@@ -1,5 +1,5 @@
 -- The reason why an event did nothing, as C sees it.
-use Rattle.std.specs.Prelude.{◌-◌, replicate, Option, Some, None}
+use Rattle.std.specs.Prelude.{ℕ, ◌-◌, Bool, true, false, replicate, Option, Some, None}
 use Rattle.em_reasons.specs.declared.dropped.Dropped.{Dropped}
 use Rattle.em_reasons.specs.declared.dropped.Dropped.TheVariants as dropped
 use Rattle.em_reasons.specs.declared.refused.Bounds.{Bounds}
@@ -52,6 +52,11 @@ of_tx_idle (tx.HeadPast head count) = record blank { rule = number_of rule.TxHea
 of_tx_idle (tx.TailPast tail count) = record blank { rule = number_of rule.TxTailPast; index = tail; count = count }
 of_tx_idle (tx.Empty at) = record blank { rule = number_of rule.TxEmpty; index = at }
 
+-- a CFI is 1 or 0
+abbrev pub cfi_told : Bool → ℕ
+cfi_told true = 1
+cfi_told false = 0
+
 abbrev pub of_dropped : Dropped → EmReason
 of_dropped dropped.Down = record blank { rule = number_of rule.FrameDown }
 of_dropped dropped.Disabled = record blank { rule = number_of rule.FrameDisabled }
@@ -64,6 +69,9 @@ of_dropped (dropped.Undersize octets) =
 of_dropped (dropped.Oversize octets most) =
     record blank { rule = number_of rule.FrameOversize; octets = octets; most = most }
 of_dropped (dropped.Vlan identifier) = record blank { rule = number_of rule.FrameVlan; value = identifier }
+of_dropped (dropped.Control to hash) = record blank { rule = number_of rule.FrameControl; to = to; value = hash }
+of_dropped (dropped.Cfi cfi) = record blank { rule = number_of rule.FrameCfi; value = cfi_told cfi }
+of_dropped dropped.Pause = record blank { rule = number_of rule.FramePause }
 of_dropped (dropped.Missed octets frames) =
     record blank { rule = number_of rule.FrameMissed; octets = octets; most = frames }
 

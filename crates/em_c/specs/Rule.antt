@@ -7,7 +7,7 @@ use Rattle.em_c.specs.declared.rule.Rule.TheVariants.{TxEmpty, FrameDown, FrameD
 use Rattle.em_c.specs.declared.rule.Rule.TheVariants.{FrameMulticast, FrameBroadcast, FrameUndersize, FrameOversize}
 use Rattle.em_c.specs.declared.rule.Rule.TheVariants.{FrameVlan, FrameMissed, NoRegister, WriteRange, WriteLength}
 use Rattle.em_c.specs.declared.rule.Rule.TheVariants.{FrameLength, RxDescriptor, RxBuffer, TxDescriptor, TxExtended}
-use Rattle.em_c.specs.declared.rule.Rule.TheVariants.{TxTooLong, TxBuffer, Memory}
+use Rattle.em_c.specs.declared.rule.Rule.TheVariants.{TxTooLong, TxBuffer, Memory, FrameControl, FrameCfi, FramePause}
 
 abbrev pub number_of : Rule → ℕ
 number_of NoRule = 0
@@ -42,3 +42,6 @@ number_of TxExtended = 28
 number_of TxTooLong = 29
 number_of TxBuffer = 30
 number_of Memory = 31
+number_of FrameControl = 32
+number_of FrameCfi = 33
+number_of FramePause = 34

@@ -47,7 +47,7 @@ pub struct EmReason {
     pub index: u32,
     /// How many descriptors the ring has.
     pub count: u32,
-    /// The hash of a destination, or the identifier of a VLAN.
+    /// The hash of a destination, the identifier of a VLAN, or the CFI of a tag.
     pub value: u32,
     /// The destination of a frame that no filter has.
     pub to: [u8; ADDRESS],
@@ -177,6 +177,12 @@ fn of_dropped(reason: Dropped) -> EmReason
             value: u32::from(identifier),
             ..by(Rule::FrameVlan)
         },
+        Dropped::Control { to, hash } => unfiltered(Rule::FrameControl, to, u32::from(hash)),
+        Dropped::Cfi { cfi } => EmReason {
+            value: if cfi { 1 } else { 0 },
+            ..by(Rule::FrameCfi)
+        },
+        Dropped::Pause => by(Rule::FramePause),
         Dropped::Missed { octets, frames } => sized(Rule::FrameMissed, octets, frames as u64),
     }
 }

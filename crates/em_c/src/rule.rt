@@ -3,7 +3,8 @@ ghost use Rattle.std.specs.Prelude.{◌≡◌};
 ghost use Rattle.em_c.specs.Rule.{number_of};
 
 /// By which rule an event did nothing. The rules of a step, of a frame and of what is refused are asked in the order in
-/// which they stand here, and the first that holds is the reason.
+/// which they stand here, but those from 32 on: FrameControl is asked with FrameUnicast, FrameCfi and FramePause behind
+/// FrameVlan. The first that holds is the reason.
 #[derive(Clone, Copy, PartialEq, Eq, Debug)]
 pub enum Rule {
     /// None: the event did something.
@@ -44,7 +45,7 @@ pub enum Rule {
     FrameUndersize = 17,
     /// A frame was dropped: it has more octets with the FCS than RCTL.LPE allows.
     FrameOversize = 18,
-    /// A frame was dropped: its VLAN is not in VFTA, or its CFI is not let pass.
+    /// A frame was dropped: its VLAN is not in VFTA.
     FrameVlan = 19,
     /// A frame was dropped: the FIFO has no room for it.
     FrameMissed = 20,
@@ -70,6 +71,12 @@ pub enum Rule {
     TxBuffer = 30,
     /// An event was refused: the host gave no memory.
     Memory = 31,
+    /// A frame was dropped: it is a MAC control frame, no filter has its destination, and RCTL.PMCF is clear.
+    FrameControl = 32,
+    /// A frame was dropped: the CFI of its tag is not RCTL.CFI.
+    FrameCfi = 33,
+    /// A frame was dropped: it is a pause frame, and RCTL.DPF is set.
+    FramePause = 34,
 }
 
 impl Rule {

@@ -18,10 +18,11 @@ use Rattle.std.specs.Prelude.{
   slice_index,
 }
 use Rattle.std.specs.List.{list_any, range_with_len}
+use Rattle.em_regs.specs.declared.profile.Profile.{Profile}
 use Rattle.em_regs.specs.Storage.{Registers}
 use Rattle.em_address.specs.declared.kind.Kind.{Kind}
 use Rattle.em_address.specs.Kind.{kind_of, is_unicast, is_group, is_broadcast}
-use Rattle.em_filter.specs.Bits.{upe, mpe, bam, mo, mta, ral, rah, av, as_of}
+use Rattle.em_filter.specs.Bits.{is_second, upe, mpe, bam, mo, mta, ral, rah, av, as_of}
 use Rattle.em_regs.specs.Setup.{bit}
 
 -- entry i is valid (AV is 1), and its address is compared with destinations (AS is 00)
@@ -43,6 +44,14 @@ addresses s = map (entry s) (filter (is_valid s) (range_with_len 0 16))
 -- the first case: the table has the address
 unfoldable pub is_in_table : Registers → ℕ → Bool
 is_in_table s a = list_any (λ b. b == a) (addresses s)
+
+-- entry i is compared with sources (AS is 01), and is the address
+abbrev pub is_source_at : Registers → ℕ → ℕ → Bool
+is_source_at s a i = (av s i && as_of s i == 1) && entry s i == a
+
+-- an entry has the source: in the second profile alone
+unfoldable pub has_source : Profile → Registers → ℕ → Bool
+has_source p s a = is_second p && list_any (is_source_at s a) (range_with_len 0 16)
 
 -- the second: any unicast address, with UPE
 abbrev pub passes_upe : Registers → Kind → Bool

@@ -1,5 +1,7 @@
 -- What the filters read of the registers, by the manual's names.
-use Rattle.std.specs.Prelude.{ℕ, ◌/◌, ◌%◌, ◌^◌, ◌==◌, Bool}
+use Rattle.std.specs.Prelude.{ℕ, ◌/◌, ◌%◌, ◌^◌, ◌==◌, ◌&&◌, Bool, true, false}
+use Rattle.em_regs.specs.declared.profile.Profile.{Profile}
+use Rattle.em_regs.specs.declared.profile.Profile.TheVariants.{Table, Adapter}
 use Rattle.em_regs.specs.declared.reg.Reg.TheVariants.{Ctrl, Vet, Rctl, Mta, Ral, Rah, Vfta}
 use Rattle.em_regs.specs.Storage.{Registers}
 use Rattle.em_regs.specs.Setup.{value_of, has}
@@ -30,6 +32,27 @@ bam s = has (rctl s) (2 ^ 15)
 -- bit 18
 abbrev pub vfe : Registers → Bool
 vfe s = has (rctl s) (2 ^ 18)
+
+-- some bits act in the second profile alone
+abbrev pub is_second : Profile → Bool
+is_second Table = false
+is_second Adapter = true
+
+-- bit 19
+abbrev pub cfien : Profile → Registers → Bool
+cfien p s = is_second p && has (rctl s) (2 ^ 19)
+
+-- bit 20
+abbrev pub cfi : Registers → Bool
+cfi s = has (rctl s) (2 ^ 20)
+
+-- bit 22
+abbrev pub dpf : Profile → Registers → Bool
+dpf p s = is_second p && has (rctl s) (2 ^ 22)
+
+-- bit 23
+abbrev pub pmcf : Profile → Registers → Bool
+pmcf p s = is_second p && has (rctl s) (2 ^ 23)
 
 -- bit 30
 abbrev pub vme : Registers → Bool

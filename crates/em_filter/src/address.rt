@@ -1,12 +1,14 @@
 //! The address filter: one function for each case in which it accepts a destination.
 ghost use Rattle.std.specs.Prelude.{◌≡◌, ◌<◌, ◌==◌};
+ghost use Rattle.std.specs.List.{list_any, range_with_len};
 ghost use Rattle.em_address.specs.Kind.{destination};
+ghost use Rattle.em_filter.specs.Address.{has_source, is_source_at};
 ghost use Rattle.em_filter.specs.Address.{accepts, entry, has_hash, hash_of, is_entry_at, is_in_table};
 ghost use Rattle.em_filter.specs.Address.{passes_bam, passes_hash, passes_mpe, passes_upe};
 
 use crate::bits::{self, WORD_BITS};
 use em_address::{Kind, kind_of};
-use em_regs::RegFile;
+use em_regs::{Profile, RegFile};
 
 /// How many receive addresses there are.
 const ENTRIES: u8 = 16;
@@ -33,6 +35,29 @@ fn is_in_table(regs: &RegFile, address: &[u8; 6]) -> bool
     ensures { result ≡ is_in_table regs.now (destination address.now) }
 {
     (0..ENTRIES).any(|index| is_entry_at(regs, address, index))
+}
+
+/// An entry of the table of receive addresses is of sources, and is the address.
+#[tactic(auto, unfolding(crate::specs::Address::has_source))]
+pub(crate) fn has_source(profile: Profile, regs: &RegFile, address: &[u8; 6]) -> bool
+    ensures { result ≡ has_source profile regs.now (destination address.now) }
+{
+    bits::is_second(profile) && is_a_source(regs, address)
+}
+
+/// An entry of sources is the address.
+fn is_a_source(regs: &RegFile, address: &[u8; 6]) -> bool
+    ensures { result ≡ list_any (is_source_at regs.now (destination address.now)) (range_with_len 0 16) }
+{
+    (0..ENTRIES).any(|index| is_source_at(regs, address, index))
+}
+
+/// One entry is of sources, and is the address.
+fn is_source_at(regs: &RegFile, address: &[u8; 6], index: u8) -> bool
+    requires { index < ENTRIES }
+    ensures { result ≡ is_source_at regs.now (destination address.now) index }
+{
+    bits::is_source(regs, index) && is_entry(regs, address, index)
 }
 
 /// One entry is valid, and is the address.
@@ -93,7 +118,7 @@ fn has_hash(regs: &RegFile, hash: u16) -> bool
 
 /// The hash of an address: the 12 bits of octets 4 and 5 that MO names.
 #[tactic(auto, unfolding(em_address::specs::Kind::destination))]
-fn hash_of(regs: &RegFile, address: &[u8; 6]) -> u16
+pub fn hash_of(regs: &RegFile, address: &[u8; 6]) -> u16
     ensures value { result ≡ hash_of regs.now (destination address.now) }
     ensures few { result < HASHES }
 {

@@ -1,11 +1,12 @@
 //! The bits and fields that the filters read of the registers.
-ghost use Rattle.std.specs.Prelude.{◌≡◌, ◌<◌, ◌%◌, ◌^◌};
+ghost use Rattle.std.specs.Prelude.{◌≡◌, ◌<◌, ◌%◌, ◌^◌, ◌==◌, ◌&&◌};
+ghost use Rattle.em_filter.specs.Bits.{as_of, av, cfi, cfien, dpf, is_second, pmcf};
 ghost use Rattle.em_filter.specs.Bits.{bam, lpe, mo, mpe, mta, rah, ral, upe, vet, vfe, vfta, vme};
 ghost use Rattle.em_regs.specs.Setup.{bit};
 ghost use Rattle.em_filter.specs.Address.{is_valid};
 
 use bitflags::Flags;
-use em_regs::{Ctrl, Rah, Rctl, Reg, RegFile};
+use em_regs::{Ctrl, Profile, Rah, Rctl, Reg, RegFile};
 
 /// The lowest bit of RCTL.MO and of RAH.AS, fields of two bits.
 const MO_BIT: u32 = 0x0000_1000;
@@ -53,6 +54,41 @@ pub(crate) fn vfe(regs: &RegFile) -> bool
     Rctl::from_bits_retain(regs.look(Reg::Rctl)).contains(Rctl::VFE)
 }
 
+/// Whether the bits act that the first profile only stores.
+pub(crate) fn is_second(profile: Profile) -> bool
+    ensures { result ≡ is_second profile }
+{
+    matches!(profile, Profile::Adapter)
+}
+
+/// RCTL.CFIEN: the CFI of tags is compared.
+pub(crate) fn cfien(profile: Profile, regs: &RegFile) -> bool
+    ensures { result ≡ cfien profile regs.now }
+{
+    is_second(profile) && Rctl::from_bits_retain(regs.look(Reg::Rctl)).contains(Rctl::CFIEN)
+}
+
+/// RCTL.CFI: what it is compared with.
+pub(crate) fn cfi(regs: &RegFile) -> bool
+    ensures { result ≡ cfi regs.now }
+{
+    Rctl::from_bits_retain(regs.look(Reg::Rctl)).contains(Rctl::CFI)
+}
+
+/// RCTL.DPF: pause frames are discarded.
+pub(crate) fn dpf(profile: Profile, regs: &RegFile) -> bool
+    ensures { result ≡ dpf profile regs.now }
+{
+    is_second(profile) && Rctl::from_bits_retain(regs.look(Reg::Rctl)).contains(Rctl::DPF)
+}
+
+/// RCTL.PMCF: other MAC control frames are taken.
+pub(crate) fn pmcf(profile: Profile, regs: &RegFile) -> bool
+    ensures { result ≡ pmcf profile regs.now }
+{
+    is_second(profile) && Rctl::from_bits_retain(regs.look(Reg::Rctl)).contains(Rctl::PMCF)
+}
+
 /// RCTL.MO: where in the address the hash lies.
 pub(crate) fn mo(regs: &RegFile) -> u32
     ensures { result ≡ mo regs.now }
@@ -81,6 +117,15 @@ pub(crate) fn is_valid(regs: &RegFile, index: u8) -> bool
 {
     let high = regs.look(Reg::Rah(index));
     Rah::from_bits_retain(high).contains(Rah::AV) && high / AS_BIT % 4 == 0
+}
+
+/// Whether a receive address is valid (RAH.AV), and one of sources (RAH.AS).
+pub(crate) fn is_source(regs: &RegFile, index: u8) -> bool
+    requires { index < 16 }
+    ensures { result ≡ av regs.now index && as_of regs.now index == 1 }
+{
+    let high = regs.look(Reg::Rah(index));
+    Rah::from_bits_retain(high).contains(Rah::AV) && high / AS_BIT % 4 == 1
 }
 
 /// Octets 0 to 3 of a receive address as one number, and octets 4 and 5.

@@ -1,14 +1,15 @@
 //! What the filters say of a frame.
 ghost use Rattle.std.specs.Prelude.{◌≡◌, ◌≤◌, length};
-ghost use Rattle.em_address.specs.Kind.{destination};
-ghost use Rattle.em_filter.specs.Filters.{longest, verdict};
+ghost use Rattle.em_address.specs.Kind.{destination, source};
+ghost use Rattle.em_filter.specs.Filters.{longest, passes_address, passes_others, verdict};
 
-use crate::address::accepts;
+use crate::address::{accepts, has_source};
 use crate::bits;
+use crate::control::{passes_dpf, passes_pmcf};
 use crate::outcome::Verdict;
-use crate::vlan::passes_vlan;
+use crate::vlan::{passes_cfi, passes_vlan};
 use em_address::kind_of;
-use em_regs::RegFile;
+use em_regs::{Profile, RegFile};
 
 /// The octets of the frame check sequence, which follow a frame on the wire and count with it.
 pub const CHECK_OCTETS: usize = 4;
@@ -16,32 +17,65 @@ pub const CHECK_OCTETS: usize = 4;
 /// The fewest octets of a frame on the wire, and the most without and with RCTL.LPE.
 const FEWEST: usize = 64;
 
-const MOST: usize = 1522;
+const MOST: u32 = 1522;
 
-const MOST_LONG: usize = 16_384;
+const MOST_LONG: u32 = 16_384;
 
 /// What the filters say of a frame: the address first, then the size, then the VLAN filter (this
 /// project's profile). A frame is the octets from its destination to the last one before the frame
 /// check sequence, 14 to 20,000.
 #[tactic(auto, unfolding(crate::specs::Filters::verdict))]
-pub fn verdict(regs: &RegFile, frame: &[u8]) -> Verdict
+pub fn verdict(profile: Profile, regs: &RegFile, frame: &[u8]) -> Verdict
     requires least { 14 ≤ length frame.now }
     requires most { length frame.now ≤ 20000 }
-    ensures { result ≡ verdict regs.now frame.now }
+    ensures { result ≡ verdict profile regs.now frame.now }
 {
-    let address = destination(frame);
     let octets = frame.len() + CHECK_OCTETS;
-    if !accepts(regs, &address) {
+    let to = destination(frame);
+    if !passes_address(profile, regs, &to, &source(frame), frame) {
         Verdict::Reject
     } else if octets < FEWEST {
         Verdict::Undersize
-    } else if octets > longest(regs) {
+    } else if octets > longest(regs) as usize {
         Verdict::Oversize
-    } else if !passes_vlan(regs, frame) {
+    } else if !passes_others(profile, regs, frame) {
         Verdict::Reject
     } else {
-        Verdict::Accept(kind_of(&address))
+        Verdict::Accept(kind_of(&to))
     }
+}
+
+/// Whether the address filter takes a frame: by its destination, and in the second profile also by its source, or as a
+/// MAC control frame.
+pub fn passes_address(
+    profile: Profile,
+    regs: &RegFile,
+    to: &[u8; 6],
+    from: &[u8; 6],
+    frame: &[u8],
+) -> bool
+    requires to { destination to.now ≡ destination frame.now }
+    requires from { destination from.now ≡ source frame.now }
+    ensures { result ≡ passes_address profile regs.now frame.now }
+{
+    accepts(regs, to) || has_source(profile, regs, from) || passes_pmcf(profile, regs, frame)
+}
+
+/// Whether the other filters let a frame pass: the VLAN filter, and in the second profile also those of the CFI and of
+/// pause frames.
+fn passes_others(profile: Profile, regs: &RegFile, frame: &[u8]) -> bool
+    ensures { result ≡ passes_others profile regs.now frame.now }
+{
+    passes_vlan(regs, frame) && passes_cfi(profile, regs, frame) && passes_dpf(profile, regs, frame)
+}
+
+/// The source address of a frame.
+#[tactic(auto, unfolding(em_address::specs::Kind::destination, em_address::specs::Kind::source))]
+fn source(frame: &[u8]) -> [u8; 6]
+    requires { 12 ≤ length frame.now }
+    ensures { destination result ≡ source frame.now }
+{
+    [frame[6], frame[7], frame[8], frame[9], frame[10], frame[11]]
 }
 
 /// The destination address of a frame.
@@ -54,7 +88,7 @@ fn destination(frame: &[u8]) -> [u8; 6]
 }
 
 /// The most octets that a frame may have on the wire.
-fn longest(regs: &RegFile) -> usize
+pub fn longest(regs: &RegFile) -> u32
     ensures { result ≡ longest regs.now }
 {
     if bits::lpe(regs) { MOST_LONG } else { MOST }

@@ -4,11 +4,14 @@
 
 mod address;
 mod bits;
+mod control;
 mod filters;
 mod outcome;
 mod vlan;
 
+pub use address::hash_of;
+pub use control::is_other_control;
 pub use em_address::{Kind, kind_of};
-pub use filters::{CHECK_OCTETS, verdict};
+pub use filters::{CHECK_OCTETS, longest, passes_address, verdict};
 pub use outcome::Verdict;
-pub use vlan::tagged;
+pub use vlan::{passes_cfi, passes_vlan, tagged};

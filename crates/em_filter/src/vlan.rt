@@ -1,12 +1,15 @@
 //! Frames with a VLAN tag, and the filter of their identifiers.
 ghost use Rattle.std.specs.Prelude.{◌≡◌, ◌<◌, ◌≤◌, length};
-ghost use Rattle.em_filter.specs.Vlan.{carries_tag, is_listed, passes_vlan, tagged};
+ghost use Rattle.em_filter.specs.Vlan.{carries_tag, cfi_of, is_listed, passes_cfi, passes_vlan, tagged};
 
 use crate::bits::{self, WORD_BITS};
-use em_regs::RegFile;
+use em_regs::{Profile, RegFile};
 
 /// A frame with a tag has these octets at least: two addresses, a type and the tag.
 const TAGGED_OCTETS: usize = 16;
+
+/// The bit of a tag that is its CFI.
+const CFI_BIT: u16 = 0x1000;
 
 /// How many identifiers there are: the low bits of a tag.
 const IDENTIFIERS: u16 = 4096;
@@ -21,10 +24,26 @@ pub fn tagged(regs: &RegFile, frame: &[u8]) -> bool
 
 /// Whether the VLAN filter lets a frame pass.
 #[tactic(auto, unfolding(crate::specs::Vlan::passes_vlan))]
-pub(crate) fn passes_vlan(regs: &RegFile, frame: &[u8]) -> bool
+pub fn passes_vlan(regs: &RegFile, frame: &[u8]) -> bool
     ensures { result ≡ passes_vlan regs.now frame.now }
 {
     !bits::vfe(regs) || !carries_tag(regs, frame) || is_listed(regs, frame)
+}
+
+/// Whether a frame passes by its CFI.
+#[tactic(auto, unfolding(crate::specs::Vlan::passes_cfi))]
+pub fn passes_cfi(profile: Profile, regs: &RegFile, frame: &[u8]) -> bool
+    ensures { result ≡ passes_cfi profile regs.now frame.now }
+{
+    !bits::cfien(profile, regs) || !carries_tag(regs, frame) || bits::cfi(regs) == cfi_of(frame)
+}
+
+/// The CFI of a frame's tag.
+fn cfi_of(frame: &[u8]) -> bool
+    requires { TAGGED_OCTETS ≤ length frame.now }
+    ensures { result ≡ cfi_of frame.now }
+{
+    u16::from_be_bytes([frame[14], frame[15]]) / CFI_BIT % 2 == 1
 }
 
 /// Whether the type of a frame is VET.

@@ -1,19 +1,19 @@
 -- The table of drops beside the arrival of a frame.
 use Rattle.std.proofs.Common.{◌≡◌, ℕ, Bool, true, false, List, length, Option, Some, None, refl, sym, ap}
 use Rattle.std.proofs.Common.{◌∙◌, arith}
-use Rattle.std.specs.Prelude.{[], ◌∷◌, ◌+◌, ◌-◌, ◌%◌, ◌==◌, ◌&&◌, ◌≤◌, ◌↔◌, nat_le, nat_lt, not}
+use Rattle.std.specs.Prelude.{[], ◌∷◌, ◌+◌, ◌==◌, ◌&&◌, ◌≤◌, ◌↔◌, nat_le, nat_lt, not}
 use Rattle.std.specs.Prelude.{option_map, if◌then◌else◌}
 use Rattle.std.proofs.lemmas.Bool.Decides.{nat_tests}
 use Rattle.em_address.specs.declared.kind.Kind.{Kind}
 use Rattle.em_address.specs.declared.kind.Kind.TheVariants as kind
-use Rattle.em_address.specs.Kind.{destination, kind_of}
+use Rattle.em_address.specs.Kind.{destination, kind_of, source}
 use Rattle.em_filter.specs.declared.outcome.Verdict.{Verdict}
 use Rattle.em_filter.specs.declared.outcome.Verdict.TheVariants.{Reject, Accept}
 use Rattle.em_filter.specs.declared.outcome.Verdict.TheVariants.{Undersize as TooShort, Oversize as TooLong}
-use Rattle.em_filter.specs.Address.{accepts}
-use Rattle.em_filter.specs.Filters.{longest, verdict}
-use Rattle.em_filter.specs.Bits.{vet, vme}
-use Rattle.em_filter.specs.Vlan.{passes_vlan, tag_of, tagged, type_of}
+use Rattle.em_filter.specs.Filters.{longest, passes_address, verdict}
+use Rattle.em_filter.specs.Bits.{is_second, vet, vme}
+use Rattle.em_filter.specs.Control.{is_other_control, passes_dpf}
+use Rattle.em_filter.specs.Vlan.{cfi_of, passes_cfi, passes_vlan, tagged, type_of}
 use Rattle.em_regs.specs.Storage.{Registers}
 use Rattle.em_rx.specs.Frame.{len_of}
 use Rattle.em_step.specs.Arrival.{after_accept, after_arrived, after_miss, arrival, is_enabled, judgement, kept_frame}
@@ -26,18 +26,21 @@ use Rattle.em_step.specs.declared.event.Reason.{Reason}
 use Rattle.em_step.specs.declared.event.Reason.TheVariants as reason
 use Rattle.em_reasons.specs.Table.{first_of}
 use Rattle.em_reasons.specs.declared.dropped.Dropped.{Dropped}
-use Rattle.em_reasons.specs.declared.dropped.Dropped.TheVariants.{Down, Disabled, Undersize, Oversize, Vlan, Missed}
-use Rattle.em_reasons.specs.Dropped.{IsDropped, reason_of, rejected, to_of, unfiltered, unfiltered_by, unlisted, why}
+use Rattle.em_reasons.specs.declared.dropped.Dropped.TheVariants.{Down, Disabled, Undersize, Oversize, Cfi, Pause, Missed}
+use Rattle.em_reasons.specs.Dropped.{IsDropped, from_of, reason_of, rejected, to_of, unfiltered, unfiltered_by, unfiltered_so}
+use Rattle.em_reasons.specs.Dropped.{unlisted, why}
 
 -- the answer by the tests, one after another
-abbrev answer_by : Bool → Bool → Bool → Bool → Bool → Bool → Bool → Answer
-answer_by up on known short long passes full =
+abbrev answer_by : Bool → Bool → Bool → Bool → Bool → Bool → Bool → Bool → Bool → Answer
+answer_by up on known short long passes cfi unpaused full =
     if not up then Drops reason.Down
     else if not on then Drops reason.Disabled
     else if not known then Drops reason.Rejected
     else if short then Drops reason.Undersize
     else if long then Drops reason.Oversize
     else if not passes then Drops reason.Rejected
+    else if not cfi then Drops reason.Rejected
+    else if not unpaused then Drops reason.Rejected
     else if full then Drops reason.Missed
     else Stored
 
@@ -50,23 +53,27 @@ by_room : (s : State) (f : List ℕ) (kind : Kind) (full : Bool) (x y : State)
 by_room s f kind true x y = refl
 by_room s f kind false x y = refl
 
-by_verdict : (s : State) (f : List ℕ) (known short long passes : Bool) (kind : Kind)
+by_verdict : (s : State) (f : List ℕ) (known short long passes cfi unpaused : Bool) (kind : Kind)
     → answer_in (judgement s f (if not known then Reject
     else if short then TooShort
     else if long then TooLong
-    else if not passes then Reject
+    else if not (passes && (cfi && unpaused)) then Reject
     else Accept kind))
     ≡ (if not known then Drops reason.Rejected
     else if short then Drops reason.Undersize
     else if long then Drops reason.Oversize
     else if not passes then Drops reason.Rejected
+    else if not cfi then Drops reason.Rejected
+    else if not unpaused then Drops reason.Rejected
     else if lacks_room s f then Drops reason.Missed
     else Stored)
-by_verdict s f false short long passes kind = refl
-by_verdict s f true true long passes kind = refl
-by_verdict s f true false true passes kind = refl
-by_verdict s f true false false false kind = refl
-by_verdict s f true false false true kind = by_room s f kind (lacks_room s f) _ _
+by_verdict s f false short long passes cfi unpaused kind = refl
+by_verdict s f true true long passes cfi unpaused kind = refl
+by_verdict s f true false true passes cfi unpaused kind = refl
+by_verdict s f true false false false cfi unpaused kind = refl
+by_verdict s f true false false true false unpaused kind = refl
+by_verdict s f true false false true true false kind = refl
+by_verdict s f true false false true true true kind = by_room s f kind (lacks_room s f) _ _
 
 by_state : (up on : Bool) (s : State) (a : Answer × State)
     → answer_in (if not up then (Drops reason.Down, s) else if not on then (Drops reason.Disabled, s) else a)
@@ -78,8 +85,9 @@ by_state true true s a = refl
 -- the tests that the table has
 abbrev answer_of : State → List ℕ → Answer
 answer_of s f =
-    answer_by s.link (is_enabled s) (accepts s.registers (destination f)) (nat_lt (length f + 4) 64)
-    (nat_lt (longest s.registers) (length f + 4)) (passes_vlan s.registers f) (lacks_room s f)
+    answer_by s.link (is_enabled s) (passes_address s.profile s.registers f) (nat_lt (length f + 4) 64)
+    (nat_lt (longest s.registers) (length f + 4)) (passes_vlan s.registers f) (passes_cfi s.profile s.registers f)
+    (passes_dpf s.profile s.registers f) (lacks_room s f)
 
 arrival_by : (s : State) (f : List ℕ) → (arrival s f).0 ≡ answer_of s f
 unfolding verdict
@@ -87,83 +95,78 @@ arrival_by s f =
     by_state s.link (is_enabled s) s _
     ∙ ap (λ (a : Answer).
     if not s.link then Drops reason.Down else if not (is_enabled s) then Drops reason.Disabled else a)
-    (by_verdict (after_arrived s f) f (accepts s.registers (destination f)) (nat_lt (length f + 4) 64)
-    (nat_lt (longest s.registers) (length f + 4)) (passes_vlan s.registers f) (kind_of (destination f)))
+    (by_verdict (after_arrived s f) f (passes_address s.profile s.registers f) (nat_lt (length f + 4) 64)
+    (nat_lt (longest s.registers) (length f + 4)) (passes_vlan s.registers f) (passes_cfi s.profile s.registers f)
+    (passes_dpf s.profile s.registers f) (kind_of (destination f)))
 
 -- ---- each reason, and the first test that holds
 -- the table by its tests
-abbrev table_by : Bool → Bool → Bool → Bool → Bool → Bool → Bool → Dropped → Dropped → Dropped → Dropped → Dropped
-    → List (Bool × Dropped)
-table_by up on known short long passes full address undersize oversize vlan missed =
+abbrev table_by : Bool → Bool → Bool → Bool → Bool → Bool → Bool → Bool → Bool
+    → Dropped → Dropped → Dropped → Dropped → Dropped → Dropped → Dropped → List (Bool × Dropped)
+table_by up on known short long passes cfi unpaused full address undersize oversize vlan other paused missed =
     (not up, Down) ∷ (not on, Disabled) ∷ (not known, address) ∷ (short, undersize) ∷ (long, oversize)
-    ∷ (not passes, vlan) ∷ (full, missed) ∷ []
+    ∷ (not passes, vlan) ∷ (not cfi, other) ∷ (not unpaused, paused) ∷ (full, missed) ∷ []
+
+-- why the filters reject a frame, by their tests
+abbrev rejected_by : Bool → Bool → Bool → Dropped → Dropped → Dropped → Dropped → Dropped
+rejected_by known passes cfi address vlan other paused =
+    if not known then address else if not passes then vlan else if not cfi then other else paused
 
 -- what it says of a drop
-abbrev said : Reason → Bool → Dropped → Dropped → Dropped → Dropped → Dropped → Dropped
-said reason.Down known address undersize oversize vlan missed = Down
-said reason.Disabled known address undersize oversize vlan missed = Disabled
-said reason.Rejected known address undersize oversize vlan missed = if known then vlan else address
-said reason.Undersize known address undersize oversize vlan missed = undersize
-said reason.Oversize known address undersize oversize vlan missed = oversize
-said reason.Missed known address undersize oversize vlan missed = missed
+abbrev said : Reason → Dropped → Dropped → Dropped → Dropped → Dropped
+said reason.Down rejects undersize oversize missed = Down
+said reason.Disabled rejects undersize oversize missed = Disabled
+said reason.Rejected rejects undersize oversize missed = rejects
+said reason.Undersize rejects undersize oversize missed = undersize
+said reason.Oversize rejects undersize oversize missed = oversize
+said reason.Missed rejects undersize oversize missed = missed
 
-first_said : (up on known short long passes full : Bool) (a u o v m : Dropped) (r : Reason)
-    → answer_by up on known short long passes full ≡ Drops r
-    → first_of (table_by up on known short long passes full a u o v m) ≡ Some (said r known a u o v m)
-first_said false on known short long passes full a u o v m r h =
-    let is : reason.Down ≡ r = cc in ap (λ (x : Reason). Some (said x known a u o v m)) is
-first_said true false known short long passes full a u o v m r h =
-    let is : reason.Disabled ≡ r = cc in ap (λ (x : Reason). Some (said x known a u o v m)) is
-first_said true true false short long passes full a u o v m r h =
-    let is : reason.Rejected ≡ r = cc in ap (λ (x : Reason). Some (said x false a u o v m)) is
-first_said true true true true long passes full a u o v m r h =
-    let is : reason.Undersize ≡ r = cc in ap (λ (x : Reason). Some (said x true a u o v m)) is
-first_said true true true false true passes full a u o v m r h =
-    let is : reason.Oversize ≡ r = cc in ap (λ (x : Reason). Some (said x true a u o v m)) is
-first_said true true true false false false full a u o v m r h =
-    let is : reason.Rejected ≡ r = cc in ap (λ (x : Reason). Some (said x true a u o v m)) is
-first_said true true true false false true true a u o v m r h =
-    let is : reason.Missed ≡ r = cc in ap (λ (x : Reason). Some (said x true a u o v m)) is
-first_said true true true false false true false a u o v m r h = cc
+-- an answer that is a drop says its reason
+found : (d u o m : Dropped) (q r : Reason) → Drops q ≡ Drops r → Some (said q d u o m) ≡ Some (said r d u o m)
+found d u o m q r h = let is : q ≡ r = cc in ap (λ (x : Reason). Some (said x d u o m)) is
+
+first_said : (up on known short long passes cfi unpaused full : Bool) (a u o v c p m : Dropped) (r : Reason)
+    → answer_by up on known short long passes cfi unpaused full ≡ Drops r
+    → first_of (table_by up on known short long passes cfi unpaused full a u o v c p m)
+    ≡ Some (said r (rejected_by known passes cfi a v c p) u o m)
+first_said false on known short long passes cfi unpaused full a u o v c p m r h = found _ u o m reason.Down r h
+first_said true false known short long passes cfi unpaused full a u o v c p m r h = found _ u o m reason.Disabled r h
+first_said true true false short long passes cfi unpaused full a u o v c p m r h = found a u o m reason.Rejected r h
+first_said true true true true long passes cfi unpaused full a u o v c p m r h = found _ u o m reason.Undersize r h
+first_said true true true false true passes cfi unpaused full a u o v c p m r h = found _ u o m reason.Oversize r h
+first_said true true true false false false cfi unpaused full a u o v c p m r h = found v u o m reason.Rejected r h
+first_said true true true false false true false unpaused full a u o v c p m r h = found c u o m reason.Rejected r h
+first_said true true true false false true true false full a u o v c p m r h = found p u o m reason.Rejected r h
+first_said true true true false false true true true true a u o v c p m r h = found p u o m reason.Missed r h
+first_said true true true false false true true true false a u o v c p m r h = cc
 
 -- ---- what the functions answer
 -- what is said of a drop of the frame for a reason
 abbrev said_of : State → List ℕ → Reason → Dropped
 said_of s f r =
-    said r (accepts s.registers (destination f)) (unfiltered s.registers (to_of f)) (Undersize (length f + 4))
-    (Oversize (length f + 4) (longest s.registers)) (unlisted f)
+    said r (rejected s.profile s.registers f) (Undersize (length f + 4)) (Oversize (length f + 4) (longest s.registers))
     (Missed (len_of (kept_frame s f)) (length s.fifo.frames))
 
 pub drop_said : (s : State) (f : List ℕ) (r q : Reason) (d : Dropped) → r ≡ q → said_of s f q ≡ d → IsDropped s f r
     → why s f ≡ Some d
 drop_said s f r q d same is dropped =
-    first_said s.link (is_enabled s) (accepts s.registers (destination f)) (nat_lt (length f + 4) 64)
-    (nat_lt (longest s.registers) (length f + 4)) (passes_vlan s.registers f) (lacks_room s f)
-    (unfiltered s.registers (to_of f)) (Undersize (length f + 4)) (Oversize (length f + 4) (longest s.registers))
-    (unlisted f) (Missed (len_of (kept_frame s f)) (length s.fifo.frames)) r (sym (arrival_by s f) ∙ dropped)
+    first_said s.link (is_enabled s) (passes_address s.profile s.registers f) (nat_lt (length f + 4) 64)
+    (nat_lt (longest s.registers) (length f + 4)) (passes_vlan s.registers f) (passes_cfi s.profile s.registers f)
+    (passes_dpf s.profile s.registers f) (lacks_room s f)
+    (unfiltered s.profile s.registers f) (Undersize (length f + 4)) (Oversize (length f + 4) (longest s.registers))
+    (unlisted f) (Cfi (cfi_of f)) Pause (Missed (len_of (kept_frame s f)) (length s.fifo.frames)) r
+    (sym (arrival_by s f) ∙ dropped)
     ∙ ap (λ (x : Reason). Some (said_of s f x)) same
     ∙ ap Some is
 
--- the destination lies in the first six octets
+-- the destination lies in the first six octets, and the source in the next
 pub destination_to : (f : List ℕ) → destination (to_of f) ≡ destination f
 unfolding destination
 destination_to f = refl
 
-known : (m : Registers) (f to : List ℕ) (b : Bool) → to ≡ to_of f → b ≡ accepts m (destination to)
-    → accepts m (destination f) ≡ b
-known m f to b at is = ap (accepts m) (sym (destination_to f) ∙ ap destination (sym at)) ∙ sym is
-
-pub by_vlan : (m : Registers) (f to : List ℕ) (b : Bool) (id : ℕ) → to ≡ to_of f → b ≡ accepts m (destination to)
-    → b ≡ true → id ≡ tag_of f % 4096 → Vlan id ≡ rejected m f
-by_vlan m f to b id at is accepted value =
-    ap Vlan value
-    ∙ sym (ap (λ (x : Bool). if x then unlisted f else unfiltered m (to_of f)) (known m f to b at is ∙ accepted))
-
-pub by_address : (m : Registers) (f to : List ℕ) (b : Bool) (d : Dropped) → to ≡ to_of f
-    → b ≡ accepts m (destination to) → b ≡ false → d ≡ unfiltered m to → d ≡ rejected m f
-by_address m f to b d at is refused value =
-    value ∙ ap (unfiltered m) at
-    ∙ sym (ap (λ (x : Bool). if x then unlisted f else unfiltered m (to_of f)) (known m f to b at is ∙ refused))
+pub source_from : (f : List ℕ) → destination (from_of f) ≡ source f
+unfolding destination source
+source_from f = refl
 
 -- a tagged frame is long enough for its tag
 second : (a b c : Bool) → (a && (b && c)) ≡ true → b ≡ true
@@ -193,42 +196,51 @@ is_drop (Wrote i) r = (λ h. cc, λ h. cc)
 is_drop (Fetched i) r = (λ h. cc, λ h. cc)
 is_drop (Sent i n) r = (λ h. cc, λ h. cc)
 
-reasons : (up on known short long passes full : Bool) (a u o v m : Dropped) → reason_of a ≡ reason.Rejected
-    → reason_of u ≡ reason.Undersize → reason_of o ≡ reason.Oversize → reason_of v ≡ reason.Rejected
+reasons : (up on known short long passes cfi unpaused full : Bool) (a u o v c p m : Dropped)
+    → reason_of a ≡ reason.Rejected → reason_of u ≡ reason.Undersize → reason_of o ≡ reason.Oversize
+    → reason_of v ≡ reason.Rejected → reason_of c ≡ reason.Rejected → reason_of p ≡ reason.Rejected
     → reason_of m ≡ reason.Missed
-    → option_map reason_of (first_of (table_by up on known short long passes full a u o v m))
-    ≡ reason_in (answer_by up on known short long passes full)
-reasons false on known short long passes full a u o v m ha hu ho hv hm = refl
-reasons true false known short long passes full a u o v m ha hu ho hv hm = refl
-reasons true true false short long passes full a u o v m ha hu ho hv hm = ap Some ha
-reasons true true true true long passes full a u o v m ha hu ho hv hm = ap Some hu
-reasons true true true false true passes full a u o v m ha hu ho hv hm = ap Some ho
-reasons true true true false false false full a u o v m ha hu ho hv hm = ap Some hv
-reasons true true true false false true true a u o v m ha hu ho hv hm = ap Some hm
-reasons true true true false false true false a u o v m ha hu ho hv hm = refl
+    → option_map reason_of (first_of (table_by up on known short long passes cfi unpaused full a u o v c p m))
+    ≡ reason_in (answer_by up on known short long passes cfi unpaused full)
+reasons false on known short long passes cfi unpaused full a u o v c p m ha hu ho hv hc hp hm = refl
+reasons true false known short long passes cfi unpaused full a u o v c p m ha hu ho hv hc hp hm = refl
+reasons true true false short long passes cfi unpaused full a u o v c p m ha hu ho hv hc hp hm = ap Some ha
+reasons true true true true long passes cfi unpaused full a u o v c p m ha hu ho hv hc hp hm = ap Some hu
+reasons true true true false true passes cfi unpaused full a u o v c p m ha hu ho hv hc hp hm = ap Some ho
+reasons true true true false false false cfi unpaused full a u o v c p m ha hu ho hv hc hp hm = ap Some hv
+reasons true true true false false true false unpaused full a u o v c p m ha hu ho hv hc hp hm = ap Some hc
+reasons true true true false false true true false full a u o v c p m ha hu ho hv hc hp hm = ap Some hp
+reasons true true true false false true true true true a u o v c p m ha hu ho hv hc hp hm = ap Some hm
+reasons true true true false false true true true false a u o v c p m ha hu ho hv hc hp hm = refl
 
-none_or_stored : (up on known short long passes full : Bool) (a u o v m : Dropped)
-    → (answer_by up on known short long passes full ≡ Stored)
-    ↔ (first_of (table_by up on known short long passes full a u o v m) ≡ None)
-none_or_stored false on known short long passes full a u o v m = (λ h. cc, λ h. cc)
-none_or_stored true false known short long passes full a u o v m = (λ h. cc, λ h. cc)
-none_or_stored true true false short long passes full a u o v m = (λ h. cc, λ h. cc)
-none_or_stored true true true true long passes full a u o v m = (λ h. cc, λ h. cc)
-none_or_stored true true true false true passes full a u o v m = (λ h. cc, λ h. cc)
-none_or_stored true true true false false false full a u o v m = (λ h. cc, λ h. cc)
-none_or_stored true true true false false true true a u o v m = (λ h. cc, λ h. cc)
-none_or_stored true true true false false true false a u o v m = (λ h. refl, λ h. refl)
+none_or_stored : (up on known short long passes cfi unpaused full : Bool) (a u o v c p m : Dropped)
+    → (answer_by up on known short long passes cfi unpaused full ≡ Stored)
+    ↔ (first_of (table_by up on known short long passes cfi unpaused full a u o v c p m) ≡ None)
+none_or_stored false on known short long passes cfi unpaused full a u o v c p m = (λ h. cc, λ h. cc)
+none_or_stored true false known short long passes cfi unpaused full a u o v c p m = (λ h. cc, λ h. cc)
+none_or_stored true true false short long passes cfi unpaused full a u o v c p m = (λ h. cc, λ h. cc)
+none_or_stored true true true true long passes cfi unpaused full a u o v c p m = (λ h. cc, λ h. cc)
+none_or_stored true true true false true passes cfi unpaused full a u o v c p m = (λ h. cc, λ h. cc)
+none_or_stored true true true false false false cfi unpaused full a u o v c p m = (λ h. cc, λ h. cc)
+none_or_stored true true true false false true false unpaused full a u o v c p m = (λ h. cc, λ h. cc)
+none_or_stored true true true false false true true false full a u o v c p m = (λ h. cc, λ h. cc)
+none_or_stored true true true false false true true true true a u o v c p m = (λ h. cc, λ h. cc)
+none_or_stored true true true false false true true true false a u o v c p m = (λ h. refl, λ h. refl)
 
-unfiltered_reason : (k : Kind) (m : Registers) (to : List ℕ) → reason_of (unfiltered_by k m to) ≡ reason.Rejected
-unfiltered_reason kind.Unicast m to = refl
-unfiltered_reason kind.Multicast m to = refl
-unfiltered_reason kind.Broadcast m to = refl
+unfiltered_reason : (control : Bool) (k : Kind) (m : Registers) (to : List ℕ) → kind_of (destination to) ≡ k
+    → reason_of (unfiltered_so control m to) ≡ reason.Rejected
+unfiltered_reason true k m to is = refl
+unfiltered_reason false kind.Unicast m to is = ap (λ (k : Kind). reason_of (unfiltered_by k m to)) is
+unfiltered_reason false kind.Multicast m to is = ap (λ (k : Kind). reason_of (unfiltered_by k m to)) is
+unfiltered_reason false kind.Broadcast m to is = ap (λ (k : Kind). reason_of (unfiltered_by k m to)) is
 
 reason_of_why : (s : State) (f : List ℕ) → option_map reason_of (why s f) ≡ reason_in (arrival s f).0
 reason_of_why s f =
-    reasons s.link (is_enabled s) (accepts s.registers (destination f)) (nat_lt (length f + 4) 64)
-    (nat_lt (longest s.registers) (length f + 4)) (passes_vlan s.registers f) (lacks_room s f) _ _ _ _ _
-    (unfiltered_reason (kind_of (destination (to_of f))) s.registers (to_of f)) refl refl refl refl
+    reasons s.link (is_enabled s) (passes_address s.profile s.registers f) (nat_lt (length f + 4) 64)
+    (nat_lt (longest s.registers) (length f + 4)) (passes_vlan s.registers f) (passes_cfi s.profile s.registers f)
+    (passes_dpf s.profile s.registers f) (lacks_room s f) _ _ _ _ _ _ _
+    (unfiltered_reason (is_second s.profile && is_other_control f) (kind_of (destination (to_of f))) s.registers
+    (to_of f) refl) refl refl refl refl refl refl
     ∙ ap reason_in (sym (arrival_by s f))
 
 pub drops_with_reason : (s : State) (f : List ℕ) (r : Reason)
@@ -239,10 +251,11 @@ drops_with_reason s f r =
 
 pub stores_without_reason : (s : State) (f : List ℕ) → ((arrival s f).0 ≡ Stored) ↔ (why s f ≡ None)
 stores_without_reason s f =
-    let both = none_or_stored s.link (is_enabled s) (accepts s.registers (destination f)) (nat_lt (length f + 4) 64)
-    (nat_lt (longest s.registers) (length f + 4)) (passes_vlan s.registers f) (lacks_room s f)
-    (unfiltered s.registers (to_of f)) (Undersize (length f + 4)) (Oversize (length f + 4) (longest s.registers))
-    (unlisted f) (Missed (len_of (kept_frame s f)) (length s.fifo.frames)) in
+    let both = none_or_stored s.link (is_enabled s) (passes_address s.profile s.registers f) (nat_lt (length f + 4) 64)
+    (nat_lt (longest s.registers) (length f + 4)) (passes_vlan s.registers f) (passes_cfi s.profile s.registers f)
+    (passes_dpf s.profile s.registers f) (lacks_room s f)
+    (unfiltered s.profile s.registers f) (Undersize (length f + 4)) (Oversize (length f + 4) (longest s.registers))
+    (unlisted f) (Cfi (cfi_of f)) Pause (Missed (len_of (kept_frame s f)) (length s.fifo.frames)) in
     (λ h. both.0 (sym (arrival_by s f) ∙ h), λ h. arrival_by s f ∙ both.1 h)
 
 -- the tests look at the same in both
@@ -285,7 +298,7 @@ of_counted s t f same =
 drop_keeps : (s : State) (f : List ℕ) (r : Reason) → IsDropped s f r → LooksTheSame s (arrival s f).1
 drop_keeps s f r =
     state_keeps s.link (is_enabled s) s _ r
-    (λ dropped. of_counted s _ f (verdict_keeps (after_arrived s f) f (verdict s.registers f) r dropped))
+    (λ dropped. of_counted s _ f (verdict_keeps (after_arrived s f) f (verdict s.profile s.registers f) r dropped))
 
 answer_same : (s t : State) (f : List ℕ) → LooksTheSame s t → answer_of t f ≡ answer_of s f
 answer_same s t f same = λ i.

@@ -2,7 +2,7 @@
 use Rattle.std.proofs.Common.{◌≡◌, ℕ, Bool, true, false, List, length, Option, Some, None, Result, Ok, Err, refl}
 use Rattle.std.proofs.Common.{sym, ap}
 use Rattle.std.proofs.Common.{◌∙◌, arith, subst}
-use Rattle.std.specs.Prelude.{[], ◌∷◌, ◌+◌, ◌==◌, ◌||◌, ◌↔◌, nat_le, nat_lt, not, is_some, IsSome, if◌then◌else◌}
+use Rattle.std.specs.Prelude.{[], ◌∷◌, ◌==◌, ◌||◌, ◌↔◌, nat_le, not, is_some, IsSome, if◌then◌else◌}
 use Rattle.std.proofs.lemmas.Bool.Decides.{nat_tests}
 use Rattle.em_mem.specs.Memory.{leaves, part}
 use Rattle.em_regs.specs.declared.setup.RxSetup.{RxSetup}

@@ -6,10 +6,13 @@ use Rattle.std.specs.Prelude.{if◌then◌else◌, bit_and}
 use Rattle.std.specs.List.{list_any, range_with_len}
 use Rattle.em_address.specs.declared.kind.Kind.{Kind}
 use Rattle.em_address.specs.declared.kind.Kind.TheVariants as kind
-use Rattle.em_address.specs.Kind.{destination, kind_of}
-use Rattle.em_filter.specs.Address.{accepts, has_hash, hash_of, is_entry_at, is_in_table, passes_bam, passes_hash}
-use Rattle.em_filter.specs.Address.{passes_mpe, passes_upe}
-use Rattle.em_filter.specs.Vlan.{passes_vlan, tag_of, tagged, type_of}
+use Rattle.em_address.specs.Kind.{destination, kind_of, source}
+use Rattle.em_filter.specs.Address.{accepts, has_hash, has_source, hash_of, is_entry_at, is_in_table, is_source_at}
+use Rattle.em_filter.specs.Address.{passes_bam, passes_hash, passes_mpe, passes_upe}
+use Rattle.em_filter.specs.Bits.{is_second}
+use Rattle.em_filter.specs.Control.{is_other_control, is_pause, passes_dpf, passes_pmcf}
+use Rattle.em_filter.specs.Filters.{passes_address}
+use Rattle.em_filter.specs.Vlan.{agree, cfi_of, passes_cfi, passes_vlan, tag_of, tagged, type_of}
 use Rattle.em_filter.proofs.TableLaws.{in_table_by_entry}
 use Rattle.em_regs.specs.declared.reg.Reg.TheVariants.{Ctrl, Vet, Rctl, Mta, Ral, Rah, Vfta}
 use Rattle.em_regs.specs.Setup.{bit, has, value_of}
@@ -22,10 +25,11 @@ use Rattle.em_regs.specs.declared.profile.Profile.TheVariants.{Table, Adapter}
 use Rattle.em_step.specs.State.{State, status_of}
 use Rattle.em_step.specs.declared.event.Reason.{Reason}
 use Rattle.em_reasons.specs.Bits.{bit_of, word_of}
-use Rattle.em_reasons.specs.Dropped.{IsDropped, drop_table, reason_of, to_of, unfiltered_by, why}
+use Rattle.em_reasons.specs.Dropped.{IsDropped, drop_table, reason_of, to_of, unfiltered_by, unfiltered_so, why}
 use Rattle.em_reasons.specs.Looks.{dropped_looks}
 use Rattle.em_reasons.specs.SameLooks.{SameEntry, SameLooks}
 use Rattle.em_reasons.specs.declared.dropped.Dropped.{Dropped}
+use Rattle.em_reasons.specs.declared.dropped.Dropped.TheVariants.{Control}
 use Rattle.em_reasons.proofs.BitLemmas.{bit_same, bits_by, bits_within, field_same, has_same}
 use Rattle.em_reasons.proofs.TableLemmas.{gives_first}
 use Rattle.em_reasons.proofs.StayLemmas.{row, row_is, some_where}
@@ -73,6 +77,24 @@ entry_same : (m n : Registers) (a i : ℕ) → value_of n (Ral i) ≡ value_of m
     → value_of n (Rah i) ≡ value_of m (Rah i) → is_entry_at n a i ≡ is_entry_at m a i
 entry_same m n a i low high =
     ap (λ (v : ℕ). entry_test v (value_of n (Rah i)) a) low ∙ ap (λ (v : ℕ). entry_test (value_of m (Ral i)) v a) high
+
+abbrev source_test : ℕ → ℕ → ℕ → Bool
+source_test low high a = (has high (2 ^ 31) && high / 2 ^ 16 % 4 == 1) && low + 2 ^ 32 * (high % 2 ^ 16) == a
+
+source_same : (m n : Registers) (a i : ℕ) → value_of n (Ral i) ≡ value_of m (Ral i)
+    → value_of n (Rah i) ≡ value_of m (Rah i) → is_source_at n a i ≡ is_source_at m a i
+source_same m n a i low high =
+    ap (λ (v : ℕ). source_test v (value_of n (Rah i)) a) low ∙ ap (λ (v : ℕ). source_test (value_of m (Ral i)) v a) high
+
+-- the entries of sources are the same
+sources_same : (p : Profile) (s t : State) (a : ℕ) → ((i : ℕ) → i < 16 → SameEntry s t i)
+    → has_source p t.registers a ≡ has_source p s.registers a
+unfolding has_source
+sources_same p s t a same =
+    ap (λ (b : Bool). is_second p && b)
+    (any_same (is_source_at t.registers a) (is_source_at s.registers a) 0 16
+    (λ i low high.
+    let entry = same i (omega arith) in source_same s.registers t.registers a i entry.0 entry.1))
 
 table_same : (s t : State) (a : ℕ) → ((i : ℕ) → i < 16 → SameEntry s t i)
     → is_in_table t.registers a ≡ is_in_table s.registers a
@@ -170,6 +192,83 @@ accepts_same s t to looks =
     ∙ address_same (kind_of (destination to)) s t to looks
     ∙ sym (accepts_cases s.registers (destination to))
 
+-- ---- the address filter of the second profile
+-- of a MAC control frame all bits of RCTL are looked at that decide
+control_looks : (k : Kind) (s t : State) (to : List ℕ)
+    → SameLooks s t (dropped_looks (Control to (hash_of s.registers (destination to))))
+    → SameLooks s t (dropped_looks (unfiltered_by k s.registers to))
+control_looks kind.Unicast s t to looks = (bits_within 0x8 0x80B018 _ _ refl looks.0, (looks.1.1.0, tt))
+control_looks kind.Multicast s t to looks =
+    (bits_within 0x3010 0x80B018 _ _ refl looks.0, (looks.1.0, (looks.1.1.0, tt)))
+control_looks kind.Broadcast s t to looks =
+    (bits_within 0xB010 0x80B018 _ _ refl looks.0, (looks.1.0, (looks.1.1.0, tt)))
+
+-- the entries are looked at for each kind
+entries_of : (k : Kind) (s t : State) (to : List ℕ) → SameLooks s t (dropped_looks (unfiltered_by k s.registers to))
+    → (i : ℕ) → i < 16 → SameEntry s t i
+entries_of kind.Unicast s t to looks = looks.1.0
+entries_of kind.Multicast s t to looks = looks.1.1.0
+entries_of kind.Broadcast s t to looks = looks.1.1.0
+
+-- where it is no such frame, or of the first profile, PMCF does not matter
+no_pmcf : (second other set : Bool) → (second && other) ≡ false → ((second && set) && other) ≡ false
+no_pmcf false other set h = refl
+no_pmcf true false true h = refl
+no_pmcf true false false h = refl
+no_pmcf true true set h = cc
+
+abbrev pmcf_by : Profile → Registers → List ℕ → Bool
+pmcf_by p m f = (is_second p && has (value_of m Rctl) (2 ^ 23)) && is_other_control f
+
+pmcf_cases : (p : Profile) (m : Registers) (f : List ℕ) → passes_pmcf p m f ≡ pmcf_by p m f
+unfolding passes_pmcf
+pmcf_cases p m f = refl
+
+pmcf_same : (p : Profile) (m n : Registers) (f : List ℕ)
+    → bit_and (value_of n Rctl) (2 ^ 23) ≡ bit_and (value_of m Rctl) (2 ^ 23) → passes_pmcf p n f ≡ passes_pmcf p m f
+pmcf_same p m n f same =
+    pmcf_cases p n f
+    ∙ ap (λ (b : Bool). (is_second p && b) && is_other_control f) (has_same (2 ^ 23) _ _ same)
+    ∙ sym (pmcf_cases p m f)
+
+pmcf_no_matter : (p : Profile) (m n : Registers) (f : List ℕ) → (is_second p && is_other_control f) ≡ false
+    → passes_pmcf p n f ≡ passes_pmcf p m f
+pmcf_no_matter p m n f other =
+    pmcf_cases p n f
+    ∙ no_pmcf (is_second p) (is_other_control f) (has (value_of n Rctl) (2 ^ 23)) other
+    ∙ sym (no_pmcf (is_second p) (is_other_control f) (has (value_of m Rctl) (2 ^ 23)) other)
+    ∙ sym (pmcf_cases p m f)
+
+plain_looks : (s t : State) (to : List ℕ) (control : Bool)
+    → SameLooks s t (dropped_looks (unfiltered_so control s.registers to))
+    → SameLooks s t (dropped_looks (unfiltered_by (kind_of (destination to)) s.registers to))
+plain_looks s t to true looks = control_looks (kind_of (destination to)) s t to looks
+plain_looks s t to false looks = looks
+
+pmcf_either : (p : Profile) (s t : State) (f : List ℕ) (control : Bool) → (is_second p && is_other_control f) ≡ control
+    → SameLooks s t (dropped_looks (unfiltered_so control s.registers (to_of f)))
+    → passes_pmcf p t.registers f ≡ passes_pmcf p s.registers f
+pmcf_either p s t f true is looks =
+    pmcf_same p s.registers t.registers f (bits_within (2 ^ 23) 0x80B018 _ _ refl looks.0)
+pmcf_either p s t f false is looks = pmcf_no_matter p s.registers t.registers f is
+
+-- the address filter takes the frame then just where it did
+address_by : (p : Profile) (s t : State) (f : List ℕ) (control : Bool) → (is_second p && is_other_control f) ≡ control
+    → SameLooks s t (dropped_looks (unfiltered_so control s.registers (to_of f)))
+    → passes_address p t.registers f ≡ passes_address p s.registers f
+address_by p s t f control is looks =
+    let to = to_of f in
+    let k = kind_of (destination to) in
+    let plain : SameLooks s t (dropped_looks (unfiltered_by k s.registers to)) = plain_looks s t to control looks in
+    let by_destination : accepts t.registers (destination f) ≡ accepts s.registers (destination f)
+    = subst (λ (a : ℕ). accepts t.registers a ≡ accepts s.registers a) (destination_to f)
+    (accepts_same s t to plain) in
+    let by_source = sources_same p s t (source f) (entries_of k s t to plain) in
+    let by_pmcf = pmcf_either p s t f control is looks in
+    ap (λ (b : Bool). b || (has_source p t.registers (source f) || passes_pmcf p t.registers f)) by_destination
+    ∙ ap (λ (b : Bool). accepts s.registers (destination f) || (b || passes_pmcf p t.registers f)) by_source
+    ∙ ap (λ (b : Bool). accepts s.registers (destination f) || (has_source p s.registers (source f) || b)) by_pmcf
+
 -- the VLAN filter by VFE, VET and the bit of the identifier
 abbrev passes_by : List ℕ → Bool → ℕ → Bool → Bool
 passes_by f on vet set = not ((on && (nat_le 16 (length f) && type_of f == vet)) && not set)
@@ -197,6 +296,42 @@ passes_same m n f rctl vet word =
     ∙ ap (λ (v : ℕ). passes_by f (has (value_of m Rctl) (2 ^ 18)) v (bit (value_of n (Vfta (id / 32))) k)) vet
     ∙ ap (λ (b : Bool). passes_by f (has (value_of m Rctl) (2 ^ 18)) (value_of m Vet) b) here
     ∙ sym (passes_cases m f)
+
+-- the CFI by CFIEN, CFI and VET
+abbrev cfi_by : Profile → List ℕ → Bool → Bool → ℕ → Bool
+cfi_by p f on wanted vet =
+    not ((is_second p && on) && (nat_le 16 (length f) && type_of f == vet) && not (agree wanted (cfi_of f)))
+
+cfi_cases : (p : Profile) (m : Registers) (f : List ℕ)
+    → passes_cfi p m f
+    ≡ cfi_by p f (has (value_of m Rctl) (2 ^ 19)) (has (value_of m Rctl) (2 ^ 20)) (value_of m Vet)
+unfolding passes_cfi
+cfi_cases p m f = refl
+
+cfi_same : (p : Profile) (m n : Registers) (f : List ℕ)
+    → bit_and (value_of n Rctl) 0x18_0000 ≡ bit_and (value_of m Rctl) 0x18_0000 → value_of n Vet ≡ value_of m Vet
+    → passes_cfi p n f ≡ passes_cfi p m f
+cfi_same p m n f rctl vet =
+    cfi_cases p n f
+    ∙ ap (λ (b : Bool). cfi_by p f b (has (value_of n Rctl) (2 ^ 20)) (value_of n Vet))
+    (has_same (2 ^ 19) _ _ (bits_within (2 ^ 19) 0x18_0000 _ _ refl rctl))
+    ∙ ap (λ (b : Bool). cfi_by p f (has (value_of m Rctl) (2 ^ 19)) b (value_of n Vet))
+    (has_same (2 ^ 20) _ _ (bits_within (2 ^ 20) 0x18_0000 _ _ refl rctl))
+    ∙ ap (cfi_by p f (has (value_of m Rctl) (2 ^ 19)) (has (value_of m Rctl) (2 ^ 20))) vet
+    ∙ sym (cfi_cases p m f)
+
+-- pause frames by DPF
+dpf_cases : (p : Profile) (m : Registers) (f : List ℕ)
+    → passes_dpf p m f ≡ not ((is_second p && has (value_of m Rctl) (2 ^ 22)) && is_pause f)
+unfolding passes_dpf
+dpf_cases p m f = refl
+
+dpf_same : (p : Profile) (m n : Registers) (f : List ℕ)
+    → bit_and (value_of n Rctl) (2 ^ 22) ≡ bit_and (value_of m Rctl) (2 ^ 22) → passes_dpf p n f ≡ passes_dpf p m f
+dpf_same p m n f rctl =
+    dpf_cases p n f
+    ∙ ap (λ (b : Bool). not ((is_second p && b) && is_pause f)) (has_same (2 ^ 22) _ _ rctl)
+    ∙ sym (dpf_cases p m f)
 
 -- whether a tag is taken out, by VME and VET
 abbrev tagged_by : List ℕ → Bool → ℕ → Bool
@@ -226,40 +361,50 @@ looks_of s t b x d h =
     (sym (ap (λ (p : Bool × Dropped). p.1) (row_is (b, x) (true, d) h)))
 
 lost_again : (s t : State) (f : List ℕ) (k : ℕ) (d : Dropped) → slice_get (drop_table s f) k ≡ Some (true, d)
-    → SameLooks s t (dropped_looks d) → keeps_sequence t ≡ keeps_sequence s → is_some (why t f) ≡ true
-lost_again s t f zero d h same keeps =
+    → SameLooks s t (dropped_looks d) → t.profile ≡ s.profile → keeps_sequence t ≡ keeps_sequence s
+    → is_some (why t f) ≡ true
+lost_again s t f zero d h same profile keeps =
     let looks = looks_of s t _ _ d h same in
     some_where (drop_table t f) 0 _ refl (ap not (link_same t.profile s.profile t.link s.link looks.0) ∙ holds_of _ _ d h)
-lost_again s t f (suc zero) d h same keeps =
+lost_again s t f (suc zero) d h same profile keeps =
     let looks = looks_of s t _ _ d h same in
     some_where (drop_table t f) 1 _ refl (ap (λ (v : ℕ). not (v == 0x2)) looks.0 ∙ holds_of _ _ d h)
-lost_again s t f (suc (suc zero)) d h same keeps =
+lost_again s t f (suc (suc zero)) d h same profile keeps =
     let looks = looks_of s t _ _ d h same in
-    let kept : accepts t.registers (destination f) ≡ accepts s.registers (destination f)
-    = subst (λ (a : ℕ). accepts t.registers a ≡ accepts s.registers a) (destination_to f)
-    (accepts_same s t (to_of f) looks) in
-    some_where (drop_table t f) 2 _ refl (ap not kept ∙ holds_of _ _ d h)
-lost_again s t f (suc (suc (suc zero))) d h same keeps =
+    some_where (drop_table t f) 2 _ refl
+    (ap (λ (p : Profile). not (passes_address p t.registers f)) profile
+    ∙ ap not (address_by s.profile s t f (is_second s.profile && is_other_control f) refl looks) ∙ holds_of _ _ d h)
+lost_again s t f (suc (suc (suc zero))) d h same profile keeps =
     some_where (drop_table t f) 3 _ refl (holds_of _ _ d h)
-lost_again s t f (suc (suc (suc (suc zero)))) d h same keeps =
+lost_again s t f (suc (suc (suc (suc zero)))) d h same profile keeps =
     let looks = looks_of s t _ _ d h same in
     some_where (drop_table t f) 4 _ refl
     (ap (λ (v : ℕ). nat_lt (if v == 2 ^ 5 then 16384 else 1522) (length f + 4)) looks.0 ∙ holds_of _ _ d h)
-lost_again s t f (suc (suc (suc (suc (suc zero))))) d h same keeps =
+lost_again s t f (suc (suc (suc (suc (suc zero))))) d h same profile keeps =
     let looks = looks_of s t _ _ d h same in
     some_where (drop_table t f) 5 _ refl
     (ap not (passes_same s.registers t.registers f looks.0 looks.1.0
     (bits_by _ (2 ^ bit_of (tag_of f % 4096)) _ _ looks.1.1.0)) ∙ holds_of _ _ d h)
-lost_again s t f (suc (suc (suc (suc (suc (suc zero)))))) d h same keeps =
+lost_again s t f (suc (suc (suc (suc (suc (suc zero)))))) d h same profile keeps =
+    let looks = looks_of s t _ _ d h same in
+    some_where (drop_table t f) 6 _ refl
+    (ap (λ (p : Profile). not (passes_cfi p t.registers f)) profile
+    ∙ ap not (cfi_same s.profile s.registers t.registers f looks.0 looks.1.0) ∙ holds_of _ _ d h)
+lost_again s t f (suc (suc (suc (suc (suc (suc (suc zero))))))) d h same profile keeps =
+    let looks = looks_of s t _ _ d h same in
+    some_where (drop_table t f) 7 _ refl
+    (ap (λ (p : Profile). not (passes_dpf p t.registers f)) profile
+    ∙ ap not (dpf_same s.profile s.registers t.registers f looks.0) ∙ holds_of _ _ d h)
+lost_again s t f (suc (suc (suc (suc (suc (suc (suc (suc zero)))))))) d h same profile keeps =
     let looks = looks_of s t _ _ d h same in
     let stored : Bool → Bool → ℕ = λ keeps tag. len_of (stored_frame (with_sequence keeps f) tag) in
-    some_where (drop_table t f) 6 _ refl
+    some_where (drop_table t f) 8 _ refl
     (ap (λ (fifo : Fifo). nat_lt 49_152 (octets_in fifo + len_of (kept_frame t f))) looks.0
     ∙ ap (λ (b : Bool). nat_lt 49_152 (octets_in s.fifo + stored (keeps_sequence t) b))
     (tagged_same s.registers t.registers f looks.1.0 looks.1.1.0)
     ∙ ap (λ (b : Bool). nat_lt 49_152 (octets_in s.fifo + stored b (tagged s.registers f))) keeps
     ∙ holds_of _ _ d h)
-lost_again s t f (suc (suc (suc (suc (suc (suc (suc k))))))) d h same keeps = cc
+lost_again s t f (suc (suc (suc (suc (suc (suc (suc (suc (suc k))))))))) d h same profile keeps = cc
 
 -- where there is a reason, the frame is dropped for it
 dropped_so : (t : State) (f : List ℕ) (o : Option Dropped) → why t f ≡ o → is_some o ≡ true
@@ -269,7 +414,7 @@ dropped_so t f (Some d) is some =
     (reason_of d, (drops_with_reason t f (reason_of d)).1 (ap (option_map reason_of) is))
 
 pub stays_lost : (s t : State) (f : List ℕ) (d : Dropped) → why s f ≡ Some d → SameLooks s t (dropped_looks d)
-    → keeps_sequence t ≡ keeps_sequence s → (again : Reason) × IsDropped t f again
-stays_lost s t f d is same keeps =
+    → t.profile ≡ s.profile → keeps_sequence t ≡ keeps_sequence s → (again : Reason) × IsDropped t f again
+stays_lost s t f d is same profile keeps =
     let found = (gives_first Dropped (drop_table s f) d).0 is in
-    dropped_so t f (why t f) refl (lost_again s t f found.0 d found.1.holds same keeps)
+    dropped_so t f (why t f) refl (lost_again s t f found.0 d found.1.holds same profile keeps)

@@ -1,17 +1,14 @@
 -- As long as what a test looked at stays, an event is refused.
 use Rattle.std.proofs.Common.{◌≡◌, ◌∙◌, ◌+◌, ◌-◌, ◌*◌, ◌/◌, ◌%◌, ◌^◌, ◌<◌, ◌≤◌, ℕ, zero, suc, Bool, true, false, List, [], ◌∷◌}
 use Rattle.std.proofs.Common.{◌⊎◌, inl, inr, Option, Some, None, Err, refl, length, sym, ap, subst, arith}
-use Rattle.std.specs.Prelude.{◌==◌, ◌&&◌, ◌||◌, nat_lt, is_some, slice_get, slice_index, take, drop, option_map}
+use Rattle.std.specs.Prelude.{◌&&◌, nat_lt, is_some, slice_index, drop, option_map}
 use Rattle.std.specs.Prelude.{if◌then◌else◌, bit_and, min}
 use Rattle.std.proofs.lemmas.Bool.Decides.{nat_tests}
 use Rattle.std.proofs.lemmas.List.{get_or-drop, get_or-take}
 use Rattle.byteorder.specs.Endian.{little_from, little_number}
 use Rattle.em_mem.specs.Memory.{leaves, part}
 use Rattle.em_regs.specs.declared.profile.Profile.{Profile}
-use Rattle.em_regs.specs.declared.reg.Reg.TheVariants.{Rctl, Rdbal, Rdbah, Rdh, Tdbal, Tdbah, Tdh}
-use Rattle.em_regs.specs.declared.setup.RxSetup.{RxSetup}
-use Rattle.em_regs.specs.declared.setup.TxSetup.{TxSetup}
-use Rattle.em_regs.specs.Setup.{bit, buffer_size, has, rx_setup, tx_setup, value_of}
+use Rattle.em_regs.specs.Setup.{bit, buffer_size, has, rx_setup, tx_setup}
 use Rattle.em_rx.specs.Fifo.{Fifo, first, rest}
 use Rattle.em_rx.specs.Receive as rx
 use Rattle.em_tx.specs.Descriptor.{address, dext, length_of}

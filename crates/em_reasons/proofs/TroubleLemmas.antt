@@ -1,5 +1,5 @@
 -- What is wrong with the descriptor at a ring's head, beside what the engine does.
-use Rattle.std.proofs.Common.{◌≡◌, ◌∙◌, ◌+◌, ◌<◌, ◌≤◌, ℕ, Bool, true, false, List, [], ◌∷◌, Option, Some, None, refl}
+use Rattle.std.proofs.Common.{◌≡◌, ◌∙◌, ◌+◌, ◌≤◌, ℕ, Bool, true, false, List, [], ◌∷◌, Option, Some, None, refl}
 use Rattle.std.proofs.Common.{length, sym, ap, arith}
 use Rattle.std.specs.Prelude.{◌==◌, ◌&&◌, ◌||◌, nat_le, nat_lt, min, not, option_map, if◌then◌else◌}
 use Rattle.std.proofs.lemmas.Bool.Decides.{nat_tests}
@@ -26,12 +26,10 @@ use Rattle.em_inspect.specs.Extent.{overlaps}
 use Rattle.em_inspect.specs.Ring.{extent_of, fields_in, is_adapters, owner_of, rx_ring, tx_ring}
 use Rattle.em_inspect.specs.Trouble.{buffer_of, is_live, live_trouble, lowest_over, or_else, trouble_in}
 use Rattle.em_reasons.specs.declared.refused.Bounds.{Bounds}
-use Rattle.em_reasons.specs.declared.refused.Refused.{Refused}
 use Rattle.em_reasons.specs.declared.refused.Refused.TheVariants.{RxDescriptor, RxBuffer, TxDescriptor, TxBuffer}
 use Rattle.em_reasons.specs.declared.refused.Refused.TheVariants.{Extended, TooLong}
 use Rattle.em_reasons.specs.Foretold.{FillsBuffer, IsLongAlone, foretold, refusal_in, rx_trouble, tx_trouble}
-use Rattle.em_reasons.specs.Refused.{IsBusy, bounds_of, refusal_of, rx_table, tx_octets, tx_table, unless_idle}
-use Rattle.em_reasons.specs.Table.{first_of}
+use Rattle.em_reasons.specs.Refused.{IsBusy, bounds_of, refusal_of, rx_table, tx_octets, tx_table}
 use Rattle.em_reasons.proofs.RefusalLemmas.{refusal_said, said}
 use Rattle.em_reasons.proofs.RefusedStay.{busy, rx_busy, tx_busy}
 

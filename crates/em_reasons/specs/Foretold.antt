@@ -1,5 +1,5 @@
 -- What is wrong with the descriptor at a ring's head, and what the engine then does.
-use Rattle.std.specs.Prelude.{◌≡◌, ◌+◌, ◌≤◌, nat_lt, true, ℕ, List, length, Option, Some, None, Result, Ok, Err}
+use Rattle.std.specs.Prelude.{◌≡◌, ◌+◌, ◌≤◌, nat_lt, true, length, Option, Some, None, Result, Ok, Err}
 use Rattle.em_regs.specs.Setup.{rx_setup, tx_setup}
 use Rattle.em_rx.specs.Fifo.{rest}
 use Rattle.em_step.specs.State.{State}

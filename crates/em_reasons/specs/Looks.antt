@@ -31,8 +31,8 @@ tx_idle_looks (tx_idle.HeadPast head count) = Bits Tdh 0xFFFF ∷ Bits Tdlen 0x0
 tx_idle_looks (tx_idle.TailPast tail count) = Bits Tdt 0xFFFF ∷ Bits Tdlen 0x000F_FF80 ∷ []
 tx_idle_looks (tx_idle.Empty at) = Bits Tdh 0xFFFF ∷ Bits Tdt 0xFFFF ∷ []
 
--- of a frame: LU is bit 1 of STATUS; of RCTL, UPE is bit 3, MPE 4, LPE 5, MO 13:12, BAM 15, VFE 18; the bit of a hash
--- in the multicast table, and of an identifier in the VLAN filter table; VME, bit 30 of CTRL, and VET say how many
+-- of a frame: LU is bit 1 of STATUS; of RCTL, UPE is bit 3, MPE 4, LPE 5, MO 13:12, BAM 15, VFE 18, CFIEN 19, CFI
+-- 20, DPF 22, PMCF 23; the bit of a hash in the multicast table, and of an identifier in the VLAN filter table; VME, bit 30 of CTRL, and VET say how many
 -- octets are stored
 abbrev pub dropped_looks : Dropped → List Look
 dropped_looks dropped.Down = Bits Status (2 ^ 1) ∷ []
@@ -42,10 +42,14 @@ dropped_looks (dropped.Multicast to hash) =
     Bits Rctl (2 ^ 4 + 0x3000) ∷ Bits (Mta (word_of hash)) (2 ^ bit_of hash) ∷ Entries ∷ []
 dropped_looks (dropped.Broadcast hash) =
     Bits Rctl (2 ^ 4 + 0x3000 + 2 ^ 15) ∷ Bits (Mta (word_of hash)) (2 ^ bit_of hash) ∷ Entries ∷ []
+dropped_looks (dropped.Control to hash) =
+    Bits Rctl (2 ^ 3 + 2 ^ 4 + 0x3000 + 2 ^ 15 + 2 ^ 23) ∷ Bits (Mta (word_of hash)) (2 ^ bit_of hash) ∷ Entries ∷ []
 dropped_looks (dropped.Undersize octets) = []
 dropped_looks (dropped.Oversize octets most) = Bits Rctl (2 ^ 5) ∷ []
 dropped_looks (dropped.Vlan identifier) =
     Bits Rctl (2 ^ 18) ∷ Bits Vet 0xFFFF ∷ Bits (Vfta (word_of identifier)) (2 ^ bit_of identifier) ∷ []
+dropped_looks (dropped.Cfi cfi) = Bits Rctl (2 ^ 19 + 2 ^ 20) ∷ Bits Vet 0xFFFF ∷ []
+dropped_looks dropped.Pause = Bits Rctl (2 ^ 22) ∷ []
 dropped_looks (dropped.Missed octets frames) = Frames ∷ Bits Ctrl (2 ^ 30) ∷ Bits Vet 0xFFFF ∷ []
 
 -- where the descriptor at a ring's head lies

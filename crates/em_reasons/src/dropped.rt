@@ -1,13 +1,19 @@
 //! Why a frame was dropped.
 ghost use Rattle.std.specs.Prelude.{◌≡◌, Some, if◌then◌else◌};
+ghost use Rattle.em_filter.specs.Vlan.{tagged};
 ghost use Rattle.em_rx.specs.Frame.{len_of};
 ghost use Rattle.em_step.specs.Arrival.{keeps_sequence, kept_frame};
-ghost use Rattle.em_reasons.specs.Dropped.{IsDropped, rejected, to_of, unfiltered, why};
+ghost use Rattle.em_reasons.specs.Dropped.{IsDropped, from_of, rejected, to_of, unfiltered, why};
 
-use crate::filters::{accepts, hash_of, identifier_of, keeps_sequence, longest, octet, tagged};
-use em_address::{Kind, kind_of};
-use em_filter::CHECK_OCTETS;
+use crate::frame::{cfi_of, identifier_of, octet};
+use crate::registers::{has, registers};
+use bitflags::Flags;
+use em_filter::{
+    CHECK_OCTETS, Kind, hash_of, is_other_control, kind_of, longest, passes_address, passes_cfi,
+    passes_vlan, tagged,
+};
 use em_journal::Machine;
+use em_regs::{Profile, Rctl, Reg};
 use em_step::Reason;
 
 /// The octets of a tag that is taken out of a frame.
@@ -26,12 +32,19 @@ pub enum Dropped {
     Multicast { to: [u8; 6], hash: u16 },
     /// No filter has its destination, which is the broadcast address, with this hash.
     Broadcast { hash: u16 },
+    /// It is a MAC control frame other than a pause frame, to an address with this hash: no filter has the address, and
+    /// RCTL.PMCF is clear.
+    Control { to: [u8; 6], hash: u16 },
     /// It has fewer than 64 octets, the frame check sequence among them.
     Undersize { octets: u64 },
     /// It has more octets than there may be by RCTL.LPE, the frame check sequence among them.
     Oversize { octets: u64, most: u32 },
     /// Its VLAN is not in the VFTA.
     Vlan { identifier: u16 },
+    /// The CFI of its tag is this one, and not RCTL.CFI.
+    Cfi { cfi: bool },
+    /// It is a pause frame, and RCTL.DPF is set.
+    Pause,
     /// The FIFO, in which so many frames wait, has no room for so many octets.
     Missed { octets: u64, frames: usize },
 }
@@ -48,7 +61,7 @@ pub fn why_dropped(machine: &Machine, frame: &[u8], reason: Reason) -> Dropped
         Reason::Undersize => Dropped::Undersize { octets },
         Reason::Oversize => Dropped::Oversize {
             octets,
-            most: longest(machine),
+            most: longest(registers(machine)),
         },
         Reason::Missed => Dropped::Missed {
             octets: stored_octets(machine, frame),
@@ -59,31 +72,37 @@ pub fn why_dropped(machine: &Machine, frame: &[u8], reason: Reason) -> Dropped
 
 /// Why the filters reject a frame that they reject.
 fn rejected(machine: &Machine, frame: &[u8]) -> Dropped
-    ensures { result ≡ rejected machine.now.present.registers frame.now }
+    ensures { result ≡ rejected machine.now.present.profile machine.now.present.registers frame.now }
 {
+    let (profile, registers) = (machine.profile(), registers(machine));
     let to = destination(frame);
-    if accepts(machine, &to) {
+    if !passes_address(profile, registers, &to, &source(frame), frame) {
+        unfiltered(machine, frame, to)
+    } else if !passes_vlan(registers, frame) {
         Dropped::Vlan {
             identifier: identifier_of(frame),
         }
+    } else if !passes_cfi(profile, registers, frame) {
+        Dropped::Cfi { cfi: cfi_of(frame) }
     } else {
-        unfiltered(machine, to)
+        Dropped::Pause
     }
 }
 
-/// That no filter has a destination.
-fn unfiltered(machine: &Machine, to: [u8; 6]) -> Dropped
-    ensures { result ≡ unfiltered machine.now.present.registers to }
+/// That no filter has the destination of a frame.
+fn unfiltered(machine: &Machine, frame: &[u8], to: [u8; 6]) -> Dropped
+    requires { to ≡ to_of frame.now }
+    ensures { result ≡ unfiltered machine.now.present.profile machine.now.present.registers frame.now }
 {
-    match kind_of(&to) {
-        Kind::Unicast => Dropped::Unicast { to },
-        Kind::Multicast => Dropped::Multicast {
-            to,
-            hash: hash_of(machine, &to),
-        },
-        Kind::Broadcast => Dropped::Broadcast {
-            hash: hash_of(machine, &to),
-        },
+    let hash = hash_of(registers(machine), &to);
+    if matches!(machine.profile(), Profile::Adapter) && is_other_control(frame) {
+        Dropped::Control { to, hash }
+    } else {
+        match kind_of(&to) {
+            Kind::Unicast => Dropped::Unicast { to },
+            Kind::Multicast => Dropped::Multicast { to, hash },
+            Kind::Broadcast => Dropped::Broadcast { hash },
+        }
     }
 }
 
@@ -101,17 +120,45 @@ fn destination(frame: &[u8]) -> [u8; 6]
     ]
 }
 
+/// The source of a frame.
+fn source(frame: &[u8]) -> [u8; 6]
+    ensures { result ≡ from_of frame.now }
+{
+    [
+        octet(frame, 6),
+        octet(frame, 7),
+        octet(frame, 8),
+        octet(frame, 9),
+        octet(frame, 10),
+        octet(frame, 11),
+    ]
+}
+
 /// How many octets a frame has as it is stored: a tagged one without its tag, and with its check sequence where that is
 /// kept.
 fn stored_octets(machine: &Machine, frame: &[u8]) -> u64
     ensures { result ≡ len_of (kept_frame machine.now.present frame.now) }
 {
     let octets = frame.len() as u64 + check_octets(machine);
-    if tagged(machine, frame) {
+    if is_tagged(machine, frame) {
         octets - TAG_OCTETS
     } else {
         octets
     }
+}
+
+/// Whether a frame is tagged: its tag is removed where it is stored.
+fn is_tagged(machine: &Machine, frame: &[u8]) -> bool
+    ensures { result ≡ tagged machine.now.present.registers frame.now }
+{
+    tagged(registers(machine), frame)
+}
+
+/// Whether frames are stored with their check sequences.
+fn keeps_sequence(machine: &Machine) -> bool
+    ensures { result ≡ keeps_sequence machine.now.present }
+{
+    matches!(machine.profile(), Profile::Adapter) && !has(machine, Reg::Rctl, Rctl::SECRC.bits())
 }
 
 /// How many octets of its check sequence are stored with a frame.

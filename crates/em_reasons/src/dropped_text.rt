@@ -1,7 +1,7 @@
 //! Why a frame was dropped, in words.
 ghost use Rattle.std.specs.Prelude.{◌≡◌};
 ghost use Rattle.em_text.specs.Writer.{Writes};
-ghost use Rattle.em_reasons.specs.DroppedText.{broadcast_text, dropped_text, group_text, long_text, missed_text};
+ghost use Rattle.em_reasons.specs.DroppedText.{broadcast_text, cfi_text, control_text, dropped_text, group_text, long_text, missed_text};
 ghost use Rattle.em_reasons.specs.DroppedText.{most_text, vlan_text};
 
 use crate::Dropped;
@@ -29,6 +29,7 @@ pub fn write_dropped<W: Write>(writer: &mut W, reason: Dropped) -> Result<(), Wr
         ),
         Dropped::Multicast { to, hash } => write_group(writer, &to, hash),
         Dropped::Broadcast { hash } => write_broadcast(writer, hash),
+        Dropped::Control { to, .. } => write_control(writer, &to),
         Dropped::Undersize { octets } => write_text(
             writer,
             &[
@@ -38,6 +39,8 @@ pub fn write_dropped<W: Write>(writer: &mut W, reason: Dropped) -> Result<(), Wr
         ),
         Dropped::Oversize { octets, most } => write_long(writer, octets, most),
         Dropped::Vlan { identifier } => write_vlan(writer, identifier),
+        Dropped::Cfi { cfi } => write_whole(writer, cfi_text(cfi)),
+        Dropped::Pause => write_whole(writer, b"a pause frame (DPF is set)"),
         Dropped::Missed { octets, frames } => write_missed(writer, octets, frames as u64),
     }
 }
@@ -54,6 +57,19 @@ fn write_group<W: Write>(writer: &mut W, to: &[u8; 6], hash: u16) -> Result<(), 
             Piece::Text(b"] bit "),
             Piece::Number(bit_of(hash) as u64),
             Piece::Text(b" is clear, MPE is clear)"),
+        ],
+    )
+}
+
+fn write_control<W: Write>(writer: &mut W, to: &[u8; 6]) -> Result<(), WriteFailed>
+    ensures writes { Writes (W.contents writer.old) (W.contents writer.new) result (control_text to.now) }
+{
+    write_text(
+        writer,
+        &[
+            Piece::Text(b"a MAC control frame to "),
+            Piece::Mac(to),
+            Piece::Text(b", which is in no filter (PMCF is clear)"),
         ],
     )
 }
@@ -109,6 +125,17 @@ fn write_vlan<W: Write>(writer: &mut W, identifier: u16) -> Result<(), WriteFail
             Piece::Text(b" is clear)"),
         ],
     )
+}
+
+/// That the CFI of a tag is not RCTL.CFI.
+fn cfi_text(cfi: bool) -> &'static [u8]
+    ensures { result.now ≡ cfi_text cfi }
+{
+    if cfi {
+        b"the CFI of its tag is 1 (CFIEN is set, CFI is clear)"
+    } else {
+        b"the CFI of its tag is 0 (CFIEN is set, CFI is set)"
+    }
 }
 
 fn write_missed<W: Write>(writer: &mut W, octets: u64, frames: u64) -> Result<(), WriteFailed>

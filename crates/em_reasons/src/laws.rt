@@ -55,10 +55,11 @@ pub fn idle_steps_stay_idle()
 {}
 
 /// As long as what the test looked at stays as it is, the frame is dropped whenever it arrives, though maybe for
-/// another reason. What counts and is no look: whether frames are stored with their check sequences.
+/// another reason. What counts and is no look: the profile is the same, and so is whether frames are stored with their
+/// check sequences.
 pub fn dropped_frames_stay_dropped()
     ensures { (s t : State) (f : List ℕ) (dropped : Dropped) → why s f ≡ Some dropped →
-        SameLooks s t (dropped_looks dropped) → keeps_sequence t ≡ keeps_sequence s →
+        SameLooks s t (dropped_looks dropped) → t.profile ≡ s.profile → keeps_sequence t ≡ keeps_sequence s →
         (again : Reason) × IsDropped t f again }
 {}
 

@@ -5,7 +5,7 @@
 mod bits;
 mod dropped;
 mod dropped_text;
-mod filters;
+mod frame;
 pub mod laws;
 mod look;
 mod refused;

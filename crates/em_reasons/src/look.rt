@@ -19,6 +19,9 @@ const BASE: u32 = 0xFFFF_FFF0;
 
 const LENGTH: u32 = 0x000F_FF80;
 
+/// The bits of RCTL by which a MAC control frame passes: UPE, MPE, MO, BAM and PMCF.
+const CONTROL_BITS: u32 = 0x0080_B018;
+
 /// What of a descriptor decides: its buffer's address, with the length behind it, that length, and CMD.
 const ADDRESS_OCTETS: u32 = 8;
 
@@ -127,6 +130,10 @@ impl Dropped {
                     Look::Entries,
                 ],
             ),
+            Dropped::Control { hash, .. } => Vec::from_slice(
+                alloc,
+                &[bits(Reg::Rctl, CONTROL_BITS), mta(hash), Look::Entries],
+            ),
             Dropped::Undersize { .. } => Ok(Vec::new(alloc)),
             Dropped::Oversize { .. } => Vec::from_slice(
                 alloc,
@@ -140,6 +147,14 @@ impl Dropped {
                     bits(Reg::Vfta(word_of(identifier)), mask_of(identifier)),
                 ],
             ),
+            Dropped::Cfi { .. } => Vec::from_slice(
+                alloc,
+                &[
+                    bits(Reg::Rctl, Rctl::CFIEN.union(Rctl::CFI).bits()),
+                    bits(Reg::Vet, LOW_HALF),
+                ],
+            ),
+            Dropped::Pause => Vec::from_slice(alloc, &[bits(Reg::Rctl, Rctl::DPF.bits())]),
             Dropped::Missed { .. } => Vec::from_slice(
                 alloc,
                 &[

@@ -5,7 +5,14 @@ ghost use Rattle.em_regs.specs.Setup.{has, value_of};
 ghost use Rattle.em_regs.specs.Table.{has_reg};
 
 use em_journal::Machine;
-use em_regs::{Profile, Reg};
+use em_regs::{Profile, Reg, RegFile};
+
+/// All of them.
+pub(crate) fn registers(machine: &Machine) -> &RegFile
+    ensures { result.now ≡ machine.now.present.registers }
+{
+    machine.adapter().registers()
+}
 
 /// What a register holds that each profile has.
 pub(crate) fn value_of(machine: &Machine, reg: Reg) -> u32

@@ -7,11 +7,9 @@ use Rattle.std.proofs.lemmas.Bool.{ltb-false}
 use Rattle.em_regs.specs.Storage.{Registers}
 use Rattle.em_address.specs.declared.kind.Kind.{Kind}
 use Rattle.em_filter.specs.declared.outcome.Verdict.TheVariants.{Reject, Undersize, Oversize, Accept}
-use Rattle.em_filter.specs.Address.{accepts}
 use Rattle.em_filter.specs.Bits.{lpe}
-use Rattle.em_filter.specs.Filters.{longest, verdict}
-use Rattle.em_address.specs.Kind.{destination}
-use Rattle.em_filter.specs.Vlan.{passes_vlan}
+use Rattle.em_filter.specs.Filters.{longest, passes_address, passes_others, verdict}
+use Rattle.em_regs.specs.declared.profile.Profile.{Profile}
 use Rattle.em_crc.specs.Crc.{crc32, sequence}
 use Rattle.em_rx.specs.Frame.{len_of, stored_frame}
 use Rattle.em_filter.specs.Vlan.{tagged}
@@ -34,14 +32,14 @@ longest_most : (b : Bool) → (if b then 16384 else 1522) ≤ 16384
 longest_most true = omega arith
 longest_most false = omega arith
 
-pub accepted_sizes : (s : Registers) (f : List ℕ) (kind : Kind) → verdict s f ≡ Accept kind →
+pub accepted_sizes : (p : Profile) (s : Registers) (f : List ℕ) (kind : Kind) → verdict p s f ≡ Accept kind →
     (60 ≤ length f) × (length f ≤ 16_380)
 unfolding verdict
-accepted_sizes s f kind is =
+accepted_sizes p s f kind is =
     let short : Bool = nat_lt (length f + 4) 64 in
     let long : Bool = nat_lt (longest s) (length f + 4) in
     let known : (short ≡ false) × (long ≡ false) =
-    sizes (accepts s (destination f)) short long (passes_vlan s f) _ kind is in
+    sizes (passes_address p s f) short long (passes_others p s f) _ kind is in
     let least : 64 ≤ length f + 4 = ltb-false _ _ known.0 in
     let few : length f + 4 ≤ longest s = ltb-false _ _ known.1 in
     (omega (arith, least), omega (arith, few, longest_most (lpe s)))

@@ -94,7 +94,7 @@ judged_keeps s f (Accept kind) = either_outcome (lacks_room s f) _ _ s.profile r
 
 arrival_keeps : (s : State) (f : List ℕ) → Keeps s.profile (arrival s f)
 arrival_keeps s f = either_outcome (not s.link) _ _ s.profile refl
-    (either_outcome (not (is_enabled s)) _ _ s.profile refl (judged_keeps (after_arrived s f) f (verdict s.registers f)))
+    (either_outcome (not (is_enabled s)) _ _ s.profile refl (judged_keeps (after_arrived s f) f (verdict s.profile s.registers f)))
 
 -- ---- engines
 rx_answer_keeps : (s : State) (a : RxAnswer) → Keeps s.profile (after_rx_answer s a)

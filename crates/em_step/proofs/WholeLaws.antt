@@ -15,10 +15,10 @@ use Rattle.em_regs.specs.Setup.{rx_setup, tx_setup, value_of}
 use Rattle.em_regs.specs.Storage.{Registers}
 use Rattle.em_filter.specs.Bits.{lpe, vme}
 use Rattle.em_regs.specs.Setup.{bit}
-use Rattle.em_filter.specs.Filters.{verdict, longest}
-use Rattle.em_filter.specs.Address.{accepts}
+use Rattle.em_filter.specs.Filters.{longest, passes_address, passes_others, verdict}
 use Rattle.em_address.specs.Kind.{destination, kind_of}
-use Rattle.em_filter.specs.Vlan.{tagged, carries_tag, passes_vlan}
+use Rattle.em_regs.specs.declared.profile.Profile.{Profile}
+use Rattle.em_filter.specs.Vlan.{tagged, carries_tag}
 use Rattle.em_address.specs.declared.kind.Kind.{Kind}
 use Rattle.em_filter.specs.declared.outcome.Verdict.{Verdict}
 use Rattle.em_filter.specs.declared.outcome.Verdict.TheVariants.{Reject, Accept}
@@ -77,11 +77,12 @@ sizes false true c d kind was h = cc
 sizes false false true d kind was h = cc
 sizes false false false d kind was h = (refl, refl)
 
-accepted : (m : Registers) (f : List ℕ) (kind : Kind) → lpe m ≡ false → verdict m f ≡ Accept kind → IsUsual f
+accepted : (p : Profile) (m : Registers) (f : List ℕ) (kind : Kind) → lpe m ≡ false → verdict p m f ≡ Accept kind
+    → IsUsual f
 unfolding verdict
-accepted m f kind no_lpe is =
-    let h = sizes (not (accepts m (destination f))) (nat_lt (length f + 4) 64) (nat_lt (longest m) (length f + 4))
-    (not (passes_vlan m f)) kind (kind_of (destination f)) is in
+accepted p m f kind no_lpe is =
+    let h = sizes (not (passes_address p m f)) (nat_lt (length f + 4) 64) (nat_lt (longest m) (length f + 4))
+    (not (passes_others p m f)) kind (kind_of (destination f)) is in
     let most : longest m ≡ 1522 = ap (λ (b : Bool). if b then 16384 else 1522) no_lpe in
     let low : 64 ≤ length f + 4 = ltb-false _ _ h.0 in
     let high : length f + 4 ≤ longest m = ltb-false _ _ h.1 in
@@ -112,7 +113,7 @@ admitted s f kind false on usual no_vme bare = (
   inr (refl, on, usual, ap (after_arrival s.fifo) (kept_plain s f no_vme bare)),
 )
 
-judged_by : (s : State) (f : List ℕ) (v : Verdict) → verdict s.registers f ≡ v → is_enabled s ≡ true
+judged_by : (s : State) (f : List ℕ) (v : Verdict) → verdict s.profile s.registers f ≡ v → is_enabled s ≡ true
     → lpe s.registers ≡ false → vme s.registers ≡ false → keeps_sequence s ≡ false
     → ArrivedAs s f (judgement s f v)
 judged_by s f Reject is on no_lpe no_vme bare = (same_state s, inl (Rejected, refl, refl))
@@ -121,7 +122,7 @@ judged_by s f TooShort is on no_lpe no_vme bare =
 judged_by s f TooLong is on no_lpe no_vme bare =
     (record { registers = refl; base = refl; memory = refl; gathered = refl; wire = refl; profile = refl }, inl (Oversize, refl, refl))
 judged_by s f (Accept kind) is on no_lpe no_vme bare =
-    admitted s f kind (lacks_room s f) on (accepted s.registers f kind no_lpe is) no_vme bare
+    admitted s f kind (lacks_room s f) on (accepted s.profile s.registers f kind no_lpe is) no_vme bare
 
 -- that it was counted among all is no matter
 of_counted : (s : State) (f : List ℕ) (r : Answer × State) → ArrivedAs (after_arrived s f) f r → ArrivedAs s f r
@@ -143,7 +144,7 @@ arrived_by : (s : State) (f : List ℕ) (up on : Bool) → is_enabled s ≡ on
 arrived_by s f false on is no_lpe no_vme bare = (same_state s, inl (Down, refl, refl))
 arrived_by s f true false is no_lpe no_vme bare = (same_state s, inl (Disabled, refl, refl))
 arrived_by s f true true is no_lpe no_vme bare =
-    of_counted s f (judged s f) (judged_by (after_arrived s f) f (verdict s.registers f) refl is no_lpe no_vme bare)
+    of_counted s f (judged s f) (judged_by (after_arrived s f) f (verdict s.profile s.registers f) refl is no_lpe no_vme bare)
 
 taken_in : (s : State) (f : List ℕ) (a : Bool) (r : Answer × State)
     → (if a then Err Length else Ok (arrival s f)) ≡ Ok r → arrival s f ≡ r

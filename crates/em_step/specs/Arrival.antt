@@ -96,7 +96,7 @@ judgement s f (Accept kind) = admission s f kind
 
 -- a frame for which receives are enabled is among all, whatever the verdict
 abbrev pub judged : State → List ℕ → Answer × State
-judged s f = judgement (after_arrived s f) f (verdict s.registers f)
+judged s f = judgement (after_arrived s f) f (verdict s.profile s.registers f)
 
 -- the answer and the next state
 abbrev pub arrival : State → List ℕ → Answer × State

@@ -84,7 +84,7 @@ impl Adapter {
         ensures same { OnErr result (self.new ≡ self.old) }
         ensures saved { OnErr result (old.new ≡ old.old) }
     {
-        match verdict(&self.registers, frame) {
+        match verdict(self.profile, &self.registers, frame) {
             Verdict::Reject => Ok((Answer::Dropped(Reason::Rejected), self.reject(frame))),
             Verdict::Undersize => Ok((
                 Answer::Dropped(Reason::Undersize),

@@ -6,11 +6,9 @@ use Rattle.std.proofs.lemmas.Bool.Decides.{nat_tests}
 use Rattle.em_address.specs.declared.kind.Kind.{Kind}
 use Rattle.em_filter.specs.declared.outcome.Verdict.TheVariants.{Reject, Accept}
 use Rattle.em_filter.specs.declared.outcome.Verdict.TheVariants.{Undersize as TooShort, Oversize as TooLong}
-use Rattle.em_filter.specs.Address.{accepts}
 use Rattle.em_filter.specs.Bits.{lpe}
-use Rattle.em_filter.specs.Filters.{longest, verdict}
+use Rattle.em_filter.specs.Filters.{longest, passes_address, passes_others, verdict}
 use Rattle.em_address.specs.Kind.{destination, kind_of}
-use Rattle.em_filter.specs.Vlan.{passes_vlan}
 use Rattle.em_step.specs.Arrival.{is_enabled, lacks_room, judgement, after_arrived, after_miss, after_accept, arrival}
 use Rattle.em_step_laws.specs.Fate.{IsFate, IsTaken}
 use Rattle.em_step.specs.State.{State}
@@ -39,9 +37,9 @@ module _ (s : State) (f : List ℕ) where
 
   -- the tests one after the other
   by_tests :
-      (up en acc short long vlan : Bool) → s.link ≡ up → is_enabled s ≡ en → accepts s.registers (destination f) ≡ acc →
+      (up en acc short long vlan : Bool) → s.link ≡ up → is_enabled s ≡ en → passes_address s.profile s.registers f ≡ acc →
       nat_lt (length f + 4) 64 ≡ short → nat_lt (longest s.registers) (length f + 4) ≡ long →
-      passes_vlan s.registers f ≡ vlan →
+      passes_others s.profile s.registers f ≡ vlan →
       IsFate s f (answer (
       if not up then (Dropped Down, s)
       else if not en then (Dropped Disabled, s)

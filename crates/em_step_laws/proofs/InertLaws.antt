@@ -23,12 +23,13 @@ use Rattle.em_regs.specs.declared.table.Kind.TheVariants.{EepromPins, PhyCommand
 use Rattle.em_regs.proofs.Entries.{at-insert, at-insert_other}
 use Rattle.em_latch.specs.Latches as latches
 use Rattle.em_eeprom.specs.Eeprom.{mac_of, word_at}
-use Rattle.em_filter.specs.Address.{accepts, is_in_table}
-use Rattle.em_filter.specs.Bits.{bam, rctl}
+use Rattle.em_filter.specs.Address.{accepts, has_source, is_in_table}
+use Rattle.em_filter.specs.Bits.{bam, is_second, rctl}
+use Rattle.em_filter.specs.Control.{is_other_control, is_pause, passes_dpf, passes_pmcf}
 use Rattle.em_regs.specs.Setup.{bit}
 use Rattle.em_filter.specs.Filters.{verdict}
-use Rattle.em_address.specs.Kind.{destination, is_broadcast, is_group, is_unicast, kind_of}
-use Rattle.em_filter.specs.Vlan.{passes_vlan, tag_of, tagged, type_of}
+use Rattle.em_address.specs.Kind.{destination, is_broadcast, is_group, is_unicast, kind_of, source}
+use Rattle.em_filter.specs.Vlan.{agree, cfi_of, passes_cfi, passes_vlan, tag_of, tagged, type_of}
 use Rattle.em_address.specs.declared.kind.Kind.{Kind as Destination}
 use Rattle.em_filter.specs.declared.outcome.Verdict.{Verdict}
 use Rattle.em_filter.specs.declared.outcome.Verdict.TheVariants as outcome
@@ -76,6 +77,10 @@ agree_same m = record {
   bam = refl;
   bsize = refl;
   vfe = refl;
+  cfien = refl;
+  cfi = refl;
+  dpf = refl;
+  pmcf = refl;
   bsex = refl;
   secrc = refl;
   tx_en = refl;
@@ -126,6 +131,10 @@ agree_by m n k l f h = record {
   bam = f _ (λ x. has x (2 ^ 15)) (offset_of Rctl) (λ e. omega arith) h.bam;
   bsize = f _ (λ x. x / 2 ^ 16 % 4) (offset_of Rctl) (λ e. omega arith) h.bsize;
   vfe = f _ (λ x. has x (2 ^ 18)) (offset_of Rctl) (λ e. omega arith) h.vfe;
+  cfien = f _ (λ x. has x (2 ^ 19)) (offset_of Rctl) (λ e. omega arith) h.cfien;
+  cfi = f _ (λ x. has x (2 ^ 20)) (offset_of Rctl) (λ e. omega arith) h.cfi;
+  dpf = f _ (λ x. has x (2 ^ 22)) (offset_of Rctl) (λ e. omega arith) h.dpf;
+  pmcf = f _ (λ x. has x (2 ^ 23)) (offset_of Rctl) (λ e. omega arith) h.pmcf;
   bsex = f _ (λ x. has x 0x0200_0000) (offset_of Rctl) (λ e. omega arith) h.bsex;
   secrc = f _ (λ x. has x 0x0400_0000) (offset_of Rctl) (λ e. omega arith) h.secrc;
   tx_en = f _ (λ x. has x 0x2) (offset_of Tctl) (λ e. omega arith) h.tx_en;
@@ -211,13 +220,33 @@ vlan_same m n f h = λ i.
     let vid : ℕ = tag_of f % 4096 in
     not (h.vfe i && (nat_le 16 (length f) && type_of f == h.vet i) && not (bit (h.vfta (vid / 32) i) (vid % 32)))
 
-verdict_same : (m n : Registers) (f : List ℕ) → AgreeInRules m n → verdict n f ≡ verdict m f
+source_same : (p : Profile) (m n : Registers) (a : ℕ) → AgreeInRules m n → has_source p n a ≡ has_source p m a
+unfolding has_source
+source_same p m n a h = λ i.
+    is_second p && list_any (λ k. (has (h.rah k i) (2 ^ 31) && h.rah k i / 2 ^ 16 % 4 == 1)
+    && h.ral k i + 2 ^ 32 * (h.rah k i % 2 ^ 16) == a) (range_with_len 0 16)
+
+pmcf_same : (p : Profile) (m n : Registers) (f : List ℕ) → AgreeInRules m n → passes_pmcf p n f ≡ passes_pmcf p m f
+unfolding passes_pmcf
+pmcf_same p m n f h = λ i. (is_second p && h.pmcf i) && is_other_control f
+
+cfi_same : (p : Profile) (m n : Registers) (f : List ℕ) → AgreeInRules m n → passes_cfi p n f ≡ passes_cfi p m f
+unfolding passes_cfi
+cfi_same p m n f h = λ i.
+    not ((is_second p && h.cfien i) && (nat_le 16 (length f) && type_of f == h.vet i) && not (agree (h.cfi i) (cfi_of f)))
+
+dpf_same : (p : Profile) (m n : Registers) (f : List ℕ) → AgreeInRules m n → passes_dpf p n f ≡ passes_dpf p m f
+unfolding passes_dpf
+dpf_same p m n f h = λ i. not ((is_second p && h.dpf i) && is_pause f)
+
+verdict_same : (p : Profile) (m n : Registers) (f : List ℕ) → AgreeInRules m n → verdict p n f ≡ verdict p m f
 unfolding verdict
-verdict_same m n f h = λ i.
-    if not (accepts_same m n (destination f) h i) then outcome.Reject
+verdict_same p m n f h = λ i.
+    if not (accepts_same m n (destination f) h i || (source_same p m n (source f) h i || pmcf_same p m n f h i))
+    then outcome.Reject
     else if nat_lt (length f + 4) 64 then outcome.Undersize
     else if nat_lt (if h.lpe i then 16384 else 1522) (length f + 4) then outcome.Oversize
-    else if not (vlan_same m n f h i) then outcome.Reject
+    else if not (vlan_same m n f h i && (cfi_same p m n f h i && dpf_same p m n f h i)) then outcome.Reject
     else outcome.Accept (kind_of (destination f))
 
 tagged_same : (m n : Registers) (f : List ℕ) → AgreeInRules m n → tagged n f ≡ tagged m f
@@ -365,11 +394,11 @@ arrival_alike : (s : State) (n : Registers) (f : List ℕ) → AgreeInRules s.re
     → Alike (Ok (arrival s f)) (Ok (arrival (with_registers s n) f))
 arrival_alike s n f h =
     let t : State = with_registers s n in
-    let v : verdict n f ≡ verdict s.registers f = verdict_same s.registers n f h in
-    let same : arrival t f ≡ arrived t f s.link (is_enabled s) (verdict s.registers f)
+    let v : verdict s.profile n f ≡ verdict s.profile s.registers f = verdict_same s.profile s.registers n f h in
+    let same : arrival t f ≡ arrived t f s.link (is_enabled s) (verdict s.profile s.registers f)
     = λ i. arrived t f s.link (h.en i) (v i) in
     subst (λ x. Alike (Ok (arrival s f)) (Ok x)) (sym same)
-    (arrived_by s n f s.link (is_enabled s) (verdict s.registers f) h)
+    (arrived_by s n f s.link (is_enabled s) (verdict s.profile s.registers f) h)
 
 sized_by : (s : State) (n : Registers) (f : List ℕ) (bad : Bool) → AgreeInRules s.registers n
     → Alike (if bad then Err Length else Ok (arrival s f))

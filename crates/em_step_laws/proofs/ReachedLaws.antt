@@ -145,7 +145,7 @@ arrival_keeps : (down off : Bool) (s : State) (f : List ℕ) → KeepsLength s.r
     → Keeps (if down then (Dropped Down, s) else if off then (Dropped Disabled, s) else judged s f)
 arrival_keeps true off s f few = few
 arrival_keeps false true s f few = few
-arrival_keeps false false s f few = judgement_keeps (after_arrived s f) f (verdict s.registers f) few
+arrival_keeps false false s f few = judgement_keeps (after_arrived s f) f (verdict s.profile s.registers f) few
 
 arrive_keeps : (bad : Bool) (x r : Answer × State) → Keeps x → (if bad then Err Length else Ok x) ≡ Ok r → Keeps r
 arrive_keeps true x r few is = cc

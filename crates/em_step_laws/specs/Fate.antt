@@ -1,9 +1,6 @@
 -- What becomes of a frame, each fate by conditions of its own.
 use Rattle.std.specs.Prelude.{◌≡◌, ◌⊎◌, ℕ, ◌+◌, ◌<◌, ◌≤◌, Bool, true, false, List, length}
-use Rattle.em_filter.specs.Address.{accepts}
-use Rattle.em_filter.specs.Filters.{longest}
-use Rattle.em_address.specs.Kind.{destination}
-use Rattle.em_filter.specs.Vlan.{passes_vlan}
+use Rattle.em_filter.specs.Filters.{longest, passes_address, passes_others}
 use Rattle.em_rx.specs.Fifo.{HasRoom}
 use Rattle.em_rx.specs.Frame.{len_of}
 use Rattle.em_step.specs.Arrival.{is_enabled, kept_frame}
@@ -16,9 +13,9 @@ use Rattle.em_step.specs.declared.event.Reason.TheVariants.{Down, Disabled, Reje
 abbrev pub Receives : State → Type 0
 Receives s = (s.link ≡ true) × (is_enabled s ≡ true)
 
--- the address filter accepts the destination, or not
+-- the address filter takes the frame, or not
 abbrev pub IsAddressed : State → List ℕ → Bool → Type 0
-IsAddressed s f whether = accepts s.registers (destination f) ≡ whether
+IsAddressed s f whether = passes_address s.profile s.registers f ≡ whether
 
 -- the frame with its check sequence has at least 64 octets and at most as many as RCTL.LPE allows
 abbrev pub IsShort : List ℕ → Type 0
@@ -30,9 +27,9 @@ IsLong s f = longest s.registers < length f + 4
 abbrev pub IsSized : State → List ℕ → Type 0
 IsSized s f = (64 ≤ length f + 4) × (length f + 4 ≤ longest s.registers)
 
--- the VLAN filter lets it pass, or not
+-- the other filters let it pass, or not: the VLAN filter, and those of the second profile
 abbrev pub Passes : State → List ℕ → Bool → Type 0
-Passes s f whether = passes_vlan s.registers f ≡ whether
+Passes s f whether = passes_others s.profile s.registers f ≡ whether
 
 -- the frame is received, but for the FIFO
 abbrev pub IsTaken : State → List ℕ → Type 0

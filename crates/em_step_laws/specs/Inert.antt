@@ -4,7 +4,7 @@ use Rattle.em_regs.specs.declared.reg.Reg.TheVariants.{Vet, Rdbal, Rdbah, Rdlen,
 use Rattle.em_regs.specs.declared.reg.Reg.TheVariants.{Tctl, Tdbal, Tdbah, Tdlen, Tdh, Tdt, Mta, Ral, Rah, Vfta}
 use Rattle.em_regs.specs.Setup.{has, value_of}
 use Rattle.em_regs.specs.Storage.{Registers}
-use Rattle.em_filter.specs.Bits.{bam, lpe, mo, mpe, rctl, upe, vfe, vme}
+use Rattle.em_filter.specs.Bits.{bam, cfi, lpe, mo, mpe, rctl, upe, vfe, vme}
 use Rattle.em_step.specs.Event.{Event, reads}
 use Rattle.em_step.specs.State.{State}
 use Rattle.em_step.specs.declared.event.Answer.{Answer}
@@ -26,6 +26,10 @@ pub record AgreeInRules (m n : Registers) : Type 0 where
   pub bam : bam n ≡ bam m
   pub bsize : rctl n / 2 ^ 16 % 4 ≡ rctl m / 2 ^ 16 % 4
   pub vfe : vfe n ≡ vfe m
+  pub cfien : has (rctl n) (2 ^ 19) ≡ has (rctl m) (2 ^ 19)
+  pub cfi : cfi n ≡ cfi m
+  pub dpf : has (rctl n) (2 ^ 22) ≡ has (rctl m) (2 ^ 22)
+  pub pmcf : has (rctl n) (2 ^ 23) ≡ has (rctl m) (2 ^ 23)
   pub bsex : has (rctl n) 0x0200_0000 ≡ has (rctl m) 0x0200_0000
   pub secrc : has (rctl n) 0x0400_0000 ≡ has (rctl m) 0x0400_0000
   -- TCTL

@@ -129,7 +129,7 @@ judged_same k s f (Accept kind) = either_of k (lacks_room s f) _ _ _ _ refl refl
 arrival_same : (k : ℕ) (s : State) (f : List ℕ) → arrival (without_frames k s) f ≡ without_of k (arrival s f)
 arrival_same k s f =
     either_of k (not s.link) _ _ _ _ refl
-    (either_of k (not (is_enabled s)) _ _ _ _ refl (judged_same k (after_arrived s f) f (verdict s.registers f)))
+    (either_of k (not (is_enabled s)) _ _ _ _ refl (judged_same k (after_arrived s f) f (verdict s.profile s.registers f)))
 
 rx_answer_same : (k : ℕ) (s : State) (a : RxAnswer)
     → after_rx_answer (without_frames k s) a ≡ without_of k (after_rx_answer s a)
@@ -290,7 +290,7 @@ arrival_grows : (s : State) (f : List ℕ) → Grows (length s.wire) (arrival s 
 arrival_grows s f =
     either_of_grows (not s.link) _ _ (length s.wire) (all (length s.wire))
     (either_of_grows (not (is_enabled s)) _ _ (length s.wire) (all (length s.wire))
-    (judged_grows (after_arrived s f) f (verdict s.registers f)))
+    (judged_grows (after_arrived s f) f (verdict s.profile s.registers f)))
 
 rx_answer_grows : (s : State) (a : RxAnswer) → Grows (length s.wire) (after_rx_answer s a)
 rx_answer_grows s rx_answer.Idle = all (length s.wire)

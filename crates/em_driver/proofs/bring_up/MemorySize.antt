@@ -65,11 +65,11 @@ judged s f (verdict.Accept kind) = admitted s f (lacks_room s f) (Stored, after_
 
 arrived_by : (s : State) (f : List ℕ) (up on : Bool)
     → SameRange s (if not up then (Dropped Down, s) else if not on then (Dropped Disabled, s)
-    else judgement (after_arrived s f) f (verdict_of s.registers f)).1
+    else judgement (after_arrived s f) f (verdict_of s.profile s.registers f)).1
 arrived_by s f false on = record { base = refl; size = refl }
 arrived_by s f true false = record { base = refl; size = refl }
 arrived_by s f true true =
-    let all = judged (after_arrived s f) f (verdict_of s.registers f) in record { base = all.base; size = all.size }
+    let all = judged (after_arrived s f) f (verdict_of s.profile s.registers f) in record { base = all.base; size = all.size }
 
 arrived : (s : State) (f : List ℕ) (long : Bool) (r : Answer × State)
     → (if long then Err Length else Ok (arrival s f)) ≡ Ok r → SameRange s r.1

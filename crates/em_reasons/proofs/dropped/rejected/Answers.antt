@@ -1,12 +1,10 @@
-use Rattle.em_reasons.proofs.DropLemmas.{by_address, by_vlan}
+use Rattle.std.proofs.Common.{ap, ◌∙◌}
+use Rattle.em_address.specs.Kind.{destination}
+use Rattle.em_reasons.proofs.DropLemmas.{destination_to, source_from}
 use Rattle.em_reasons.proofs.dropped.rejected.Goals as goal
 
-pub returns-then-accepts : goal.returns-then-accepts
-returns-then-accepts c =
-    by_vlan c.args.machine.now.present.registers c.args.frame.now c.destination-to.result c.accepts.result
-    c.identifier_of.result c.destination-to.ensures c.accepts.ensures c.if-accepts.true c.identifier_of.ensures.value
+pub passes_address-requires-clause-to : goal.passes_address-requires-clause-to
+passes_address-requires-clause-to c = ap destination c.destination-to.ensures ∙ destination_to c.args.frame.now
 
-pub returns-else-accepts : goal.returns-else-accepts
-returns-else-accepts c =
-    by_address c.args.machine.now.present.registers c.args.frame.now c.destination-to.result c.accepts.result
-    c.unfiltered.result c.destination-to.ensures c.accepts.ensures c.if-accepts.false c.unfiltered.ensures
+pub passes_address-requires-clause-from : goal.passes_address-requires-clause-from
+passes_address-requires-clause-from c = ap destination c.source.ensures ∙ source_from c.args.frame.now

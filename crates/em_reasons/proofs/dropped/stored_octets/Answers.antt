@@ -9,20 +9,20 @@ use Rattle.em_reasons.proofs.dropped.stored_octets.Goals as goal
 pub overflow_sub-result : goal.overflow_sub-result
 overflow_sub-result c =
     let m = c.args.machine.now.present.registers in
-    let so : tagged m c.args.frame.now ≡ true = sym c.tagged.ensures ∙ c.if-tagged.true in
+    let so : tagged m c.args.frame.now ≡ true = sym c.is_tagged.ensures ∙ c.if-is_tagged.true in
     let long : 16 ≤ length c.args.frame.now = tagged_long m c.args.frame.now so in
     omega arith
 
-pub returns-then-tagged : goal.returns-then-tagged
-returns-then-tagged c =
+pub returns-then-is_tagged : goal.returns-then-is_tagged
+returns-then-is_tagged c =
     stored_by c.args.machine.now.present c.args.frame.now c.check_octets.result true
-    (tagged_long c.args.machine.now.present.registers c.args.frame.now) c.check_octets.ensures (sym c.if-tagged.true ∙ c.tagged.ensures)
+    (tagged_long c.args.machine.now.present.registers c.args.frame.now) c.check_octets.ensures (sym c.if-is_tagged.true ∙ c.is_tagged.ensures)
 
-pub returns-else-tagged : goal.returns-else-tagged
-returns-else-tagged c =
+pub returns-else-is_tagged : goal.returns-else-is_tagged
+returns-else-is_tagged c =
     let s = c.args.machine.now.present in
     let f = c.args.frame.now in
     let is : (length f + c.check_octets.result) - 0 ≡ len_of (kept_frame s f)
     = stored_by s f c.check_octets.result false (tagged_long s.registers f) c.check_octets.ensures
-    (sym c.if-tagged.false ∙ c.tagged.ensures) in
+    (sym c.if-is_tagged.false ∙ c.is_tagged.ensures) in
     omega (arith, is)
