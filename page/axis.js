@@ -35,8 +35,8 @@ class StepAxis {
 }
 
 /**
- * Times, over as many places as there are steps: a step lies at its time. What is older than something before it, since a clock
- * was set back, lies with that.
+ * Times, over as many places as there are steps: a step lies at its time. What is older than something before it, since
+ * a clock was set back, lies with that.
  */
 class TimeAxis {
   /** @param {Float64Array} times of steps, in microseconds; NaN where none is known yet */
@@ -90,8 +90,8 @@ class TimeAxis {
 }
 
 /**
- * When each step was, in microseconds: the latest time of a line up to its own, as a capture of sent frames has it; NaN before
- * the first one.
+ * When each step was, in microseconds: the latest time of a line up to its own, as a capture of sent frames has it; NaN
+ * before the first one.
  * @param {Run} run @returns {Float64Array}
  */
 function stepTimes({ lines, steps }) {

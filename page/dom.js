@@ -45,10 +45,25 @@ function setHidden(element, hidden) {
   if (element.hidden !== hidden) element.hidden = hidden;
 }
 
+/** Lets a control be used or not, where it is not so already. */
+function setDisabled(control, disabled) {
+  if (control.disabled !== disabled) control.disabled = disabled;
+}
+
+/** Makes these an element's children, and puts in and takes out only those that were not, or stood elsewhere. */
+function arrange(element, children) {
+  const wanted = new Set(children);
+  for (const child of [...element.childNodes]) if (!wanted.has(child)) child.remove();
+  let there = element.firstChild;
+  for (const child of children) {
+    if (child === there) there = there.nextSibling;
+    else element.insertBefore(child, there);
+  }
+}
+
 /**
  * Makes an element's children like those of another list, and changes only what differs: what stays is not laid out
- * again,
- * and keeps the focus.
+ * again, and keeps the focus.
  * @param {Element} element @param {Node[]} children
  */
 function become(element, children) {
@@ -74,8 +89,8 @@ function morph(old, fresh) {
 }
 
 /**
- * A button that asks who changed something. What it asks about stands in `data-watch`; main.js listens for its click. It
- * stands in a group, in which the arrows lead to it.
+ * A button that asks who changed something. What it asks about stands in `data-watch`; main.js listens for its click.
+ * It stands in a group, in which the arrows lead to it.
  * @param {string} watch
  * @param {Object<string, string|number|boolean|null>} attributes
  */
@@ -125,15 +140,22 @@ function digitsOf(octets) {
   return text;
 }
 
+const GROUPED = new Intl.NumberFormat("en");
+
+/** A number as a text, with a comma between thousands. */
+function grouped(number) {
+  return number < 1_000 ? String(number) : GROUPED.format(number);
+}
+
 /** A number with its thing: `1 event`, `12,000 events`. */
 function counted(count, thing) {
-  return `${count.toLocaleString("en")} ${thing}${count === 1 ? "" : "s"}`;
+  return `${grouped(count)} ${thing}${count === 1 ? "" : "s"}`;
 }
 
 /** A text of at most so many characters, with what is left out told. */
 function shortened(text, most) {
   if (text.length <= most) return text;
-  return `${text.slice(0, most)}… (${text.length.toLocaleString("en")} characters)`;
+  return `${text.slice(0, most)}… (${grouped(text.length)} characters)`;
 }
 
 /** In so many characters of a place, the last ones, its file and line are sought. */

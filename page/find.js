@@ -266,7 +266,10 @@ function hasOctetsAt(frame, digits) {
   return at >= 0;
 }
 
-/** Whether a frame has a protocol, by a few of its octets: one of its types, or that within IP. @param {string} frame digits */
+/**
+ * Whether a frame has a protocol, by a few of its octets: one of its types, or that within IP.
+ * @param {string} frame digits
+ */
 function hasProtocol(frame, name) {
   for (let at = 24; at + 4 <= frame.length; at += 8) {
     const type = (octetAt(frame, at) << 8) | octetAt(frame, at + 2), found = TYPE_WORDS.get(type);

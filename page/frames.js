@@ -49,8 +49,11 @@ function octetLines(octets, across) {
   return lines.join("\n");
 }
 
+const NARROW = matchMedia("(max-width: 560px)");
+
+/** Whether the window is a phone's. */
 function isNarrow() {
-  return matchMedia("(max-width: 560px)").matches;
+  return NARROW.matches;
 }
 
 /** What is opened where it is wanted: its parts are made then. */
@@ -92,7 +95,7 @@ class Frames {
 
   /** What is gathered for the next frame to be sent. @private */
   gathered(element, digits) {
-    element.hidden = digits === "";
+    setHidden(element, digits === "");
     setAttribute(element, "data-octets", digits);
     if (digits === "") return;
     setText(element.querySelector("summary"), `${counted(digits.length / 2, "octet")} gathered for the next frame`);
@@ -104,16 +107,22 @@ class Frames {
     const isNew = (frame) => this.app.changes && frame.place.number === this.app.number;
     if (this.items.size > MOST_ROWS) this.items.clear();
     const items = frames.map((frame) => {
-      const key = `${frame.list.field} ${frame.number}`;
-      if (!this.items.has(key)) this.items.set(key, this.item(frame));
-      const item = this.items.get(key);
+      const item = this.kept(`${frame.list.field} ${frame.number}`, () => this.item(frame));
       setAttribute(item, "data-changed", isNew(frame) ? "" : null);
       return item;
     });
-    if (more > 0) items.push(make("li", { class: "quiet" }, `and ${counted(more, "frame")} more`));
-    const same = items.length === element.children.length && items.every((item, index) =>
-      element.children[index] === item);
-    if (!same) element.replaceChildren(...items);
+    if (more > 0) {
+      const rest = this.kept(element.id, () => make("li", { class: "quiet" }));
+      setText(rest, `and ${counted(more, "frame")} more`);
+      items.push(rest);
+    }
+    arrange(element, items);
+  }
+
+  /** A row that was made for this, or that is made now. @private */
+  kept(key, made) {
+    if (!this.items.has(key)) this.items.set(key, made());
+    return this.items.get(key);
   }
 
   /** @private */

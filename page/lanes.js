@@ -90,7 +90,7 @@ class Lanes {
     const { asked } = this.app;
     setHidden(this.button, !asked || !isOfLane(asked.watch) || this.list.some(({ text }) => text === asked.text));
     // (a lane goes over the whole run)
-    this.button.disabled = !this.app.run.isRead;
+    setDisabled(this.button, !this.app.run.isRead);
   }
 }
 

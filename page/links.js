@@ -84,7 +84,7 @@ const PLACE_PARTS = new Set(["event", "step", "line"]);
 /** What is wrong with the number of a place that was not read; where it may come yet, the link waits for it. */
 function missing(name, value, link, { isRead }) {
   if (isRead || !isWithin(value, MOST_EVENTS)) return `is no ${name} of this ${name === "line" ? "script" : "run"}`;
-  link.waits = `${name} ${Number(value).toLocaleString("en")}`;
+  link.waits = `${name} ${grouped(Number(value))}`;
   return "";
 }
 

@@ -33,6 +33,7 @@ class App {
     this.panels = [new ScriptPanel(this), this.timeline, this.wave, ...this.rings,
       new Present(this), this.sources,
       new Registers(this), this.memory, new Frames(this), this.search, new Saved(this), this.lanes, new Stops(this)];
+    this.steady = new Steady(this);
     this.beside = new TwoPanel(this);
     this.panels.push(this.beside);
     this.signals();
@@ -80,6 +81,7 @@ class App {
   /** Goes to a place that is not the next one: the browser's back leads to the one that is left. */
   jump(step, line = 0) {
     this.address.leave();
+    this.steady.free();
     this.goTo(step, false, line);
   }
 
@@ -186,7 +188,7 @@ class App {
       interrupt: place.interrupt ? 1 : 0, frames: place.frames, sent: place.sending?.count ?? 0,
     })) setAttribute(main, `data-${name}`, value);
     const back = byId("return");
-    back.hidden = this.asked === null || this.origin === step;
+    setHidden(back, this.asked === null || this.origin === step);
     setText(back, `return to step ${this.origin}`);
     this.address.follow();
   }

@@ -17,8 +17,8 @@ const MAPPED_WHOLE = 16_777_216;
 const MAPPED_LEAST = 65_536;
 
 /**
- * What the map shows: all of memory, or of a large one the least part that has each octet which the run changes and begins
- * at a multiple of its size, a power of 2.
+ * What the map shows: all of memory, or of a large one the least part that has each octet which the run changes and
+ * begins at a multiple of its size, a power of 2.
  * @returns {[number, number]}
  */
 function mappedRange(memory, touched) {
@@ -52,8 +52,7 @@ class MemoryPanel {
     this.focus = this.base;
     this.map = byId("map");
     this.grid = byId("octets");
-    this.narrow = matchMedia("(max-width: 560px)");
-    this.narrow.addEventListener("change", () => app.paint(), { signal: app.ending.signal });
+    NARROW.addEventListener("change", () => app.paint(), { signal: app.ending.signal });
     byId("memory-form").addEventListener("submit", (event) => {
       event.preventDefault();
       this.showTyped();
@@ -64,6 +63,8 @@ class MemoryPanel {
       make("li", {}, make("span", { class: `swatch map-${name}` }), words)),
     make("li", {}, make("span", { class: "swatch map-shown" }), "shown below"));
     this.makeRows();
+    /** The buttons of parts of memory, by what they show. @type {Map<string, HTMLElement>} */
+    this.regionButtons = new Map();
   }
 
   /** The map takes what was read since. */
@@ -97,7 +98,7 @@ class MemoryPanel {
   }
 
   across() {
-    return this.narrow.matches ? 8 : 16;
+    return isNarrow() ? 8 : 16;
   }
 
   /** @private */
@@ -272,10 +273,21 @@ class MemoryPanel {
     const key = order.map(({ words, at, size }) => `${words} ${at} ${size}`).join();
     if (key === this.regionsKey) return;
     this.regionsKey = key;
-    become(byId("regions"), [...order.slice(0, most).map(({ kind, words, at, size }) =>
-      make("button", { type: "button", class: `region map-${kind}`, "data-show": at, tabindex: -1 },
-        make("span", {}, words), ` ${addressText(at)}–${addressText(at + BigInt(size) - 1n)}`)),
-    ...(order.length > most ? [make("span", { class: "quiet" }, `and ${order.length - most} more`)] : [])]);
+    const before = this.regionButtons, buttons = new Map();
+    for (const part of order.slice(0, most)) {
+      const { words, at, size } = part, own = `${words} ${at} ${size}`;
+      if (!buttons.has(own)) buttons.set(own, before.get(own) ?? this.regionButton(part));
+    }
+    this.regionButtons = buttons;
+    const more = order.length - most;
+    arrange(byId("regions"), [...buttons.values(),
+      ...(more > 0 ? [make("span", { class: "quiet" }, `and ${more} more`)] : [])]);
+  }
+
+  /** @private */
+  regionButton({ kind, words, at, size }) {
+    return make("button", { type: "button", class: `region map-${kind}`, "data-show": at, tabindex: -1 },
+      make("span", {}, words), ` ${addressText(at)}–${addressText(at + BigInt(size) - 1n)}`);
   }
 
   /** @private */

@@ -21,7 +21,9 @@ function deedOf(text) {
   return (/^read \S+|^write \S+ \S+/.exec(text) ?? text.split(":", 1))[0];
 }
 
-/** What happened in a run: its start, each event, each reverse step that took events back, each line that was refused. */
+/**
+ * What happened in a run: its start, each event, each reverse step that took events back, each line that was refused.
+ */
 class Happenings {
   /** @param {Run} run @param {Texts} deeds of both runs */
   constructor(run, deeds) {
@@ -102,7 +104,10 @@ function fieldsApart(one, other) {
   return [...names].filter((name) => JSON.stringify(one[name]) !== JSON.stringify(other[name]));
 }
 
-/** What differs between the machines of two runs at their start, in words. @param {Run} one @param {Run} other @returns {string[]} */
+/**
+ * What differs between the machines of two runs at their start, in words.
+ * @param {Run} one @param {Run} other @returns {string[]}
+ */
 function startApart(one, other) {
   const parts = MACHINE_PARTS.filter((part) => JSON.stringify(one.settings[part]) !== JSON.stringify(other.settings[part]));
   return [...parts, ...REGISTERS.filter((_, index) => one.registers[index] !== other.registers[index]).map(([, name]) => name)];
@@ -153,7 +158,10 @@ class Apart {
   constructor(both) {
     this.both = both;
     this.registers = both.map(({ run }) => run.registers.slice());
-    /** The octets of memory that differ, by address: that of the one, and that of the other. @type {Map<number, number[]>} */
+    /**
+     * The octets of memory that differ, by address: that of the one, and that of the other.
+     * @type {Map<number, number[]>}
+     */
     this.octets = new Map();
     /** The newest event that stands in each. */
     this.numbers = [0, 0];
@@ -244,8 +252,8 @@ class Pairs {
     /** By happening of each, that of the other one which belongs to it. */
     this.partners = this.both.map(({ length }) => new Uint32Array(length).fill(ALONE));
     /**
-     * Differences: which happenings of each they are, from one to another that is none of them. One of either, where these
-     * belong together; else such as stand in one run alone.
+     * Differences: which happenings of each they are, from one to another that is none of them. One of either, where
+     * these belong together; else such as stand in one run alone.
      */
     this.differences = new Table({ from0: Uint32Array, end0: Uint32Array, from1: Uint32Array, end1: Uint32Array });
     /** How many pairs differ only in what differed before. */

@@ -117,11 +117,11 @@ class Search {
 
   paint() {
     const [before, at] = this.rank(), { length } = this.hits.steps;
-    const count = length.toLocaleString("en");
+    const count = grouped(length);
     const none = this.app.run.isRead ? "nothing found" : "sought when all is read";
     const found = !this.text.trim() ? "" : this.fault || (length === 0 ? none : at
-      ? `${(before + 1).toLocaleString("en")} of ${count}` : `${count} found`);
+      ? `${grouped(before + 1)} of ${count}` : `${count} found`);
     setText(byId("found"), found);
-    for (const id of ["find-back", "find-on"]) byId(id).disabled = length === 0;
+    for (const id of ["find-back", "find-on"]) setDisabled(byId(id), length === 0);
   }
 }

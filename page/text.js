@@ -1,6 +1,6 @@
 // The octets of a record: JSON Lines. The first line has the settings and the start. Behind it each line of the script
-// has one, and behind that each of its events. Of a long run the page keeps the octets, and reads a line with its events
-// anew where it is shown.
+// has one, and behind that each of its events. Of a long run the page keeps the octets, and reads a line with its
+// events anew where it is shown.
 
 const NEWLINE = 10;
 const DECODER = new TextDecoder();
@@ -9,7 +9,9 @@ const EVENT_BEGINS = '\n{"event":';
 /** How a record of an older version begins, whose first line is no JSON. */
 const OLD_VERSION = /^\{"format":"bunjelav recording","version":(\d+),$/;
 
-/** Where a record is read from, part by part. The octets are kept, and each line's record is read where it is wanted. */
+/**
+ * Where a record is read from, part by part. The octets are kept, and each line's record is read where it is wanted.
+ */
 class LineSource {
   constructor() {
     /** The octets that were read. */

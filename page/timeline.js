@@ -143,7 +143,7 @@ class Timeline {
   /** @private */
   countButton(word, words, count) {
     return make("button", { type: "button", "data-find": `is:${word}`, tabindex: -1, title: "Go to the next one" },
-      `${words} (${count.toLocaleString("en")})`);
+      `${words} (${grouped(count)})`);
   }
 
   /** Zooms by a factor about the present step, or to the whole run for 0. */
@@ -261,6 +261,11 @@ class Timeline {
       this.paintEach(context);
       this.paintFound(context);
     }
+  }
+
+  /** Draws how reverse steps lead back; what lies ahead is fainter. */
+  paintWays(context) {
+    const { view } = this;
     this.backs.forEach((index, order) => {
       const to = this.targets[order];
       const [start, end] = [view.x(to), view.x(index)];
@@ -279,12 +284,12 @@ class Timeline {
     paintMarks(context, columns, this.whole.marks, 0, MARK_ROOM / Math.max(3, this.whole.marks.length));
   }
 
-  /** What lies ahead in columns is fainter. */
+  /** What lies ahead is fainter. */
   paintAhead(context) {
     const { view, app: { step } } = this, from = Math.max(0, view.x(step) + Math.max(2, view.wide));
     context.globalAlpha = 1 - AHEAD;
     context.fillStyle = palette.panel;
-    context.fillRect(from, MARK_ROOM, Math.max(0, view.width - from), LANE * (this.hasBranches ? 2 : 1));
+    context.fillRect(from, MARK_ROOM + 1, Math.max(0, view.width - from), LANE * (this.hasBranches ? 2 : 1) - 1);
     context.globalAlpha = 1;
   }
 
@@ -327,12 +332,10 @@ class Timeline {
 
   /** @private */
   paintStep(context, index, x) {
-    const { run, step: present } = this.app;
-    const { cell } = this.view;
-    const kind = run.steps.kind(index);
-    const y = MARK_ROOM + (run.steps.isOnBranch(index) ? LANE : 0);
+    const { steps } = this.app.run, { cell } = this.view;
+    const kind = steps.kind(index);
+    const y = MARK_ROOM + (steps.isOnBranch(index) ? LANE : 0);
     const gap = cell >= 8 ? 1 : 0.5;
-    context.globalAlpha = index <= present ? 1 : AHEAD;
     context.fillStyle = palette[`kind-${kind}`];
     if (kind === "look" || kind === "start") context.fillRect(x + cell / 2 - 1, y + 5, 2, LANE - 10);
     else context.fillRect(x + gap, y + 1, cell - 2 * gap, LANE - 2);
@@ -340,7 +343,6 @@ class Timeline {
       context.fillStyle = palette.panel;
       context.fillText(KINDS[kind][0], x + cell / 2, y + LANE / 2 + 0.5);
     }
-    context.globalAlpha = 1;
   }
 
   /** The way from a reverse step to the event behind which it led. @private */

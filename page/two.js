@@ -22,7 +22,10 @@ class TwoRuns {
 
 /** What of a run belongs to a step of the other one. */
 class Beside {
-  /** @param {TwoRuns} two @param {number} side of the step @param {number} step @param {number|null} current a difference */
+  /**
+   * @param {TwoRuns} two
+   * @param {number} side of the step @param {number} step @param {number|null} current a difference
+   */
   constructor({ pairs }, side, step, current) {
     const index = pairs.both[side].at(step), partner = pairs.partners[side][index];
     /** By run, the happenings that are shown, from one to another that is not. */
@@ -109,8 +112,8 @@ class TwoPanel {
     const [behind, isThere] = this.rank(), { length } = pairs.differences;
     if (!isThere || this.current !== behind) this.current = isThere ? behind : null;
     setText(byId("apart-at"), !length ? "" : isThere
-      ? `${(behind + 1).toLocaleString("en")} of ${length.toLocaleString("en")}`
-      : `${behind.toLocaleString("en")} before this, of ${length.toLocaleString("en")}`);
+      ? `${grouped(behind + 1)} of ${grouped(length)}`
+      : `${grouped(behind)} before this, of ${grouped(length)}`);
     this.beside = new Beside(this.two, this.side, step, this.current);
     setAttribute(byId("beside"), "data-places", this.beside.ranges.map(({ from, end }) => `${from}-${end}`).join());
     const rows = this.rows();
@@ -131,7 +134,7 @@ class TwoPanel {
     const [count, otherCount] = [end - from, otherEnd - otherFrom];
     const said = !count ? `${other} has ${counted(otherCount, "step")} that ${one} has not`
       : !otherCount ? `${one} has ${counted(count, "step")} that ${other} has not`
-        : `${one} has ${counted(count, "step")} in the place of ${otherCount.toLocaleString("en")} of ${other}`;
+        : `${one} has ${counted(count, "step")} in the place of ${grouped(otherCount)} of ${other}`;
     return `${this.current === 0 ? "Here they part: " : ""}${said}.`;
   }
 
@@ -158,7 +161,7 @@ class TwoPanel {
     for (let index = first; index < Math.min(end, first + MOST_ALONE); index++) {
       list.push(this.where(run, happenings.steps[index]));
     }
-    if (first + MOST_ALONE < end) list.push(`and ${(end - first - MOST_ALONE).toLocaleString("en")} more`);
+    if (first + MOST_ALONE < end) list.push(`and ${grouped(end - first - MOST_ALONE)} more`);
     return list.length ? list : ["–"];
   }
 
@@ -259,7 +262,10 @@ function isAlike(one, other) {
   return true;
 }
 
-/** What differs between two machines: registers, octets of memory, and what else is seen of them. @param {State[]} states */
+/**
+ * What differs between two machines: registers, octets of memory, and what else is seen of them.
+ * @param {State[]} states
+ */
 function apartOf([one, other]) {
   const registers = REGISTERS.map((_, index) => index).filter((index) => one.registers[index] !== other.registers[index]);
   const pages = [...new Set([...one.memory.pages.keys(), ...other.memory.pages.keys()])].sort((a, b) => a - b);

@@ -148,12 +148,9 @@ class Wave {
   paint() {
     const height = this.height(), { context, width } = sized(byId("analyser"), height);
     this.paintPresent(context, palette.shade, 0);
-    if (this.timeline.view.isColumns) {
-      context.drawImage(this.picture(width, height), 0, 0, width, height);
-      this.timeline.paintAhead(context);
-    } else {
-      this.paintAll(context, width);
-    }
+    context.drawImage(this.picture(width, height), 0, 0, width, height);
+    this.timeline.paintAhead(context);
+    this.timeline.paintWays(context);
     this.paintPresent(context, palette.accent, Math.max(0, this.timeline.view.wide - 1.5));
     this.rows.forEach((one) => this.paintName(one));
     for (const lane of this.app.lanes.list) {
@@ -172,10 +169,11 @@ class Wave {
       this.paintLane(context, lane, top + row * (this.rows.length + index), width));
   }
 
-  /** All that in columns, which is drawn once for a view. @private */
+  /** All that as a picture, which is drawn once for a view and a search. @private */
   picture(width, height) {
-    const { view } = this.timeline, lanes = this.app.lanes.list.map(({ text }) => text).join();
-    const key = `${view.key()} ${height} ${palette.version} ${window.devicePixelRatio} ${lanes}`;
+    const { search, lanes } = this.app, shown = lanes.list.map(({ text }) => text).join();
+    const key = [this.timeline.view.key(), height, palette.version, window.devicePixelRatio, search.version, shown]
+      .join(" ");
     if (key !== this.pictureKey) {
       this.pictureKey = key;
       this.drawn = new OffscreenCanvas(1, 1);
