@@ -43,6 +43,11 @@ function hasOctets(octets) {
   return false;
 }
 
+/** Whether octets are the same. @param {Uint8Array} one @param {Uint8Array} other */
+function areSame(one, other) {
+  return one.length === other.length && one.every((octet, at) => octet === other[at]);
+}
+
 class MemoryPanel {
   constructor(app) {
     this.app = app;
@@ -114,7 +119,7 @@ class MemoryPanel {
       const letters = make("span", { class: "letters", "aria-hidden": "true" });
       const element = make("div", { class: "octets-row", role: "row" }, address, ...cells.map((cell) => cell.element),
         letters);
-      return { element, address, cells, letters };
+      return { element, address, cells, letters, marks: "", octets: NO_OCTETS, before: NO_OCTETS };
     });
     this.grid.replaceChildren(...this.rows.map((row) => row.element));
   }
@@ -145,10 +150,11 @@ class MemoryPanel {
     if (this.focus < this.address || this.focus >= this.address + count) this.focus = this.address;
     const octets = this.app.state.memory.octets(this.address, count);
     const before = this.app.changes ? octetsBefore(this.app.place, this.address, octets) : octets;
-    this.rows.forEach((row, index) => this.paintRow(row, this.address + index * across,
-      octets.subarray(index * across, (index + 1) * across), before.subarray(index * across, (index + 1) * across)));
+    const part = (of, index) => of.subarray(index * across, (index + 1) * across);
+    const painted = this.rows.filter((row, index) =>
+      this.paintRow(row, this.address + index * across, part(octets, index), part(before, index)));
     setAttribute(this.grid, "data-address", this.address);
-    setAttribute(this.grid, "data-octets", digitsOf(octets));
+    if (painted.length) setAttribute(this.grid, "data-octets", digitsOf(octets));
     const box = byId("address");
     if (document.activeElement !== box) {
       box.value = addressText(this.address);
@@ -158,8 +164,18 @@ class MemoryPanel {
     this.paintMap();
   }
 
-  /** @private */
+  /** What marks octets of a row besides what they are: the focus, and what was asked. @private */
+  marksOf(address) {
+    const { asked } = this.app, at = this.focus - address;
+    const isAsked = asked !== null && asked.watch.kind === "octets";
+    return `${address} ${at >= 0 && at < this.made ? at : ""} ${isAsked ? `${asked.watch.address} ${asked.watch.count}` : ""}`;
+  }
+
+  /** Paints a row where it is another one. @private @returns {boolean} whether it is */
   paintRow(row, address, octets, before) {
+    const marks = this.marksOf(address);
+    if (row.marks === marks && areSame(row.octets, octets) && areSame(row.before, before)) return false;
+    Object.assign(row, { marks, octets: octets.slice(), before: before.slice() });
     setText(row.address, addressText(address));
     let letters = "";
     let changedInRow = false;
@@ -186,6 +202,7 @@ class MemoryPanel {
     });
     setAttribute(row.element, "data-changed", changedInRow ? "" : null);
     setText(row.letters, letters);
+    return true;
   }
 
   /** @private */

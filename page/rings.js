@@ -208,10 +208,16 @@ class RingPanel {
 
   /** All that the drawing and the table go by. @private */
   key({ ring, shown }) {
-    const { app } = this;
     const octets = shown.map((one) => `${one.octets ? digitsOf(one.octets) : "-"} ${one.trouble}`);
-    const touched = app.changes ? app.place.memory.map(([address, before]) => `${address} ${before.length}`) : [];
+    const touched = this.app.changes ? this.touched(ring, shown) : [];
     return [ring.base, ring.count, ring.head, ring.tail, ring.buffer, ring.enabled, ...octets, ...touched].join();
+  }
+
+  /** What the present step changed of the ring and of its buffers. @private */
+  touched(ring, shown) {
+    return this.app.place.memory.map(([address, before]) => [BigInt(address), before.length / 2])
+      .filter(([at, size]) => overlap(at, size, ring.base, DESCRIPTOR_OCTETS * ring.count)
+        || shown.some((one) => one.live && overlap(at, size, one.at, one.size)));
   }
 
   /** @private */
