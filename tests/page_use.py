@@ -1,4 +1,8 @@
 """A page by keyboard alone, with a screen reader's tree, at widths, in both schemes; and how long it takes."""
+import contextlib
+import io
+from importlib.machinery import SourceFileLoader
+from importlib.util import module_from_spec, spec_from_loader
 from pathlib import Path
 
 import recorded
@@ -8,7 +12,9 @@ from page_names import of_code, of_docs
 from page_states import ASK, GO, LOOK, by_bench
 from tally import Tally
 
-MANY_ROUNDS, OPEN_SECONDS, STEP_MILLISECONDS, TRIES = 2000, 1.0, 16.0, 20
+MANY_ROUNDS, GUEST_ROUNDS, OPEN_SECONDS, TRIES = 2000, 600, 1.0, 20
+# of a step: up to its layout, and with its painting
+LAID_MILLISECONDS, PAINTED_MILLISECONDS = 16.0, 24.0
 # of a long run: what objects of the page may take for an event, and so many lines em_bench reads at most
 EVENTS_OF_A_ROUND, OBJECT_OCTETS, MOST_OF_BENCH, PLACES = 5, 600, 100_000, [0x1000, 0x2000]
 LEAST_CONTRAST = 4.5
@@ -323,26 +329,61 @@ def spent(browser, *names: str) -> float:
 
 
 def timing(tally: Tally, browser, room: Path) -> None:
-    """10,000 events open within a second, and a step takes at most 16 ms to its layout: seconds of a processor, since others
-    run too, and the best of some tries. What it takes with its painting is told, and has no bound: machines differ."""
+    """10,000 events open within a second, and a step takes at most 16 ms to its layout and 24 with its painting: times of the
+    page's own thread, since others run too, and the best of some tries."""
     page = room / "many.html"
     page.write_bytes(page_of(record_of(many_events(MANY_ROUNDS).encode())))
     browser.command("Performance.enable", timeDomain="threadTicks")
-    work = ("ScriptDuration", "RecalcStyleDuration", "LayoutDuration")
-    opening, step, painted = [], [], []
+    opening, steps = [], []
     for _ in range(TRIES):
         browser.open(page)
         opening.append(spent(browser, "TaskDuration"))
-        before, all_before = spent(browser, *work), spent(browser, "TaskDuration")
-        browser.run(STEPS_ON, STEPS_TIMED)
-        step.append(1000 * (spent(browser, *work) - before) / STEPS_TIMED)
-        painted.append(1000 * (spent(browser, "TaskDuration") - all_before) / STEPS_TIMED)
-        if opening[-1] <= OPEN_SECONDS and step[-1] <= STEP_MILLISECONDS:
+        steps.append(step_times(browser))
+        if min(opening) <= OPEN_SECONDS and is_quick(steps):
             break
     tally.check("10,000 events open", [] if min(opening) <= OPEN_SECONDS else [f"it takes {min(opening):.2f} s"])
-    tally.check("a step is painted", [] if min(step) <= STEP_MILLISECONDS else [f"it takes {min(step):.1f} ms"])
-    print(f"10,000 events open in {min(opening):.2f} s, and a step takes {min(step):.1f} ms up to its layout, "
-          f"{min(painted):.1f} with its painting")
+    print(f"10,000 events open in {min(opening):.2f} s")
+    steps_are_quick(tally, "10,000 events", steps)
+    page.write_bytes(page_of(record_of(guest_run(GUEST_ROUNDS).encode())))
+    browser.open(page)
+    steps = []
+    while len(steps) < TRIES and not (steps and is_quick(steps)):
+        steps.append(step_times(browser))
+    steps_are_quick(tally, "a guest's run", steps)
+
+
+def guest_run(rounds: int) -> str:
+    """The run of examples/guest/long.py, with fewer rounds, and in the memory that a machine has without more words."""
+    loader = SourceFileLoader("long", str(TOP / "examples" / "guest" / "long.py"))
+    guest = module_from_spec(spec_from_loader("long", loader))
+    loader.exec_module(guest)
+    guest.ROUNDS, guest.FAULT = rounds, rounds // 2
+    guest.RING, guest.SENT_RING, guest.BUFFERS, guest.SENT = 0x1000, 0x2000, 0x4000, 0x9000
+    with contextlib.redirect_stdout(io.StringIO()) as told:
+        guest.main()
+    return told.getvalue()
+
+
+def step_times(browser) -> tuple[float, float]:
+    """How many milliseconds of the page's own thread a step takes up to its layout, and with its painting."""
+    work = ("ScriptDuration", "RecalcStyleDuration", "LayoutDuration")
+    before, all_before = spent(browser, *work), spent(browser, "TaskDuration")
+    browser.run(STEPS_ON, STEPS_TIMED)
+    laid, painted = spent(browser, *work) - before, spent(browser, "TaskDuration") - all_before
+    return 1000 * laid / STEPS_TIMED, 1000 * painted / STEPS_TIMED
+
+
+def is_quick(steps: list[tuple[float, float]]) -> bool:
+    """Whether the best of some tries keep both bounds."""
+    laid, painted = map(min, zip(*steps))
+    return laid <= LAID_MILLISECONDS and painted <= PAINTED_MILLISECONDS
+
+
+def steps_are_quick(tally: Tally, name: str, steps: list[tuple[float, float]]) -> None:
+    laid, painted = map(min, zip(*steps))
+    told = f"of {name} a step takes {laid:.1f} ms up to its layout, {painted:.1f} with its painting"
+    tally.check("a step is painted", [] if is_quick(steps) else [told])
+    print(told)
 
 
 def long_run(tally: Tally, browser, room: Path, events: int) -> None:
