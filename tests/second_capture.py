@@ -19,6 +19,7 @@ RESOLUTION, CHECKS, OFFSET = 9, 13, 14
 NETWORKS = {1: 0, 1 | 1 << 26: 0, 1 | 1 << 26 | 2 << 28: 4}
 IN_OPTION = {b"\0": 0, b"\x04": 4, b"\x20": 4}
 UNLIMITED = 1 << 32
+USUAL = bytes.fromhex("525400123456")
 
 
 class Fault(Exception):
@@ -26,10 +27,11 @@ class Fault(Exception):
 
 
 class Reader:
-    """Reads one capture; `packets` are tuples of the original length, the octets and the time."""
+    """Reads one capture, made by a machine of an address; `packets` are tuples of the original length, the octets and the
+    time."""
 
-    def __init__(self, file: bytes) -> None:
-        self.file, self.at, self.packets, self.fault = file, 0, [], None
+    def __init__(self, file: bytes, own: bytes = USUAL) -> None:
+        self.file, self.own, self.at, self.packets, self.fault = file, own, 0, [], None
         try:
             self.read()
         except Fault as fault:
@@ -54,9 +56,8 @@ class Reader:
         major, snap, network = struct.unpack_from(order + "H10xII", self.file, 4)
         if major != 2:
             raise Fault(VERSION)
-        if network not in NETWORKS:
+        if network not in NETWORKS and network not in COOKED:
             raise Fault(LINK)
-        checks = NETWORKS[network]
         self.at, snap = 24, snap or UNLIMITED
         while self.at < len(self.file):
             if len(self.file) - self.at < 16:
@@ -67,8 +68,15 @@ class Reader:
             octets = self.file[self.at + 16 : self.at + 16 + captured]
             if len(octets) < captured:
                 raise Fault(CUT)
-            self.packets.append((*unchecked(checks, original, octets), seconds * 10**9 + part * unit))
+            self.give(COOKED.get(network), NETWORKS.get(network), original, octets, seconds * 10**9 + part * unit)
             self.at += 16 + captured
+
+    def give(self, cooked: tuple | None, checks: int | None, original: int, octets: bytes, time: int | None) -> None:
+        """A packet: a frame, or one that Linux cooked, whose frame is given if it was one."""
+        if cooked is None:
+            self.packets.append((*unchecked(checks, original, octets), time))
+        elif front := front_of(octets, original, self.own, *cooked):
+            self.packets.append((14 + original - cooked[0], front + octets[cooked[0] :], time))
 
     # ---- pcapng
 
@@ -97,7 +105,7 @@ class Reader:
             elif kind == DESCRIPTION:
                 interfaces.append(described(order, block))
             elif kind in (SIMPLE, ENHANCED):
-                self.packets.append(packet(order, block, kind, interfaces))
+                self.give(*packet(order, block, kind, interfaces))
             self.at += size
 
 
@@ -109,19 +117,17 @@ def unchecked(checks: int, original: int, octets: bytes) -> tuple[int, bytes]:
     return max(original - checks, 0), octets[: max(frame, 0)]
 
 
-def described(order: str, block: bytes) -> tuple[int, int, int | None]:
-    """The snap length of an interface, its frame check sequence, and its clock: how many nanoseconds it counts as one, if
-    that is known."""
+def described(order: str, block: bytes) -> tuple[int, tuple | None, int | None, int | None]:
+    """The snap length of an interface, how its packets are cooked if they are, or else their frame check sequence, and its
+    clock: how many nanoseconds it counts as one, if that is known."""
     link, snap = struct.unpack_from(order + "H2xI", block, 8)
-    if link != 1:
-        raise Fault(LINK)
     said = options(order, block[16:-4])
     checks = IN_OPTION.get(said.get(CHECKS, b"\0"))
-    if checks is None:
+    if link not in COOKED and (link != 1 or checks is None):
         raise Fault(LINK)
     power = said.get(RESOLUTION, b"\x06")
     is_known = OFFSET not in said and len(power) == 1 and power[0] <= 9
-    return snap or UNLIMITED, checks, 10 ** (9 - power[0]) if is_known else None
+    return snap or UNLIMITED, COOKED.get(link), checks, 10 ** (9 - power[0]) if is_known else None
 
 
 def options(order: str, octets: bytes) -> dict[int, bytes]:
@@ -136,7 +142,7 @@ def options(order: str, octets: bytes) -> dict[int, bytes]:
     return said
 
 
-def packet(order: str, block: bytes, kind: int, interfaces: list) -> tuple[int, bytes, int | None]:
+def packet(order: str, block: bytes, kind: int, interfaces: list) -> tuple:
     if kind == ENHANCED:
         which, high, low, captured, original = struct.unpack_from(order + "IIIII", block, 8)
         octets = block[28:-4]
@@ -145,7 +151,7 @@ def packet(order: str, block: bytes, kind: int, interfaces: list) -> tuple[int, 
         octets = block[12:-4]
     if which >= len(interfaces):
         raise Fault(INTERFACE)
-    snap, checks, clock = interfaces[which]
+    snap, cooked, checks, clock = interfaces[which]
     if kind == SIMPLE:
         captured = min(original, snap)
     if captured > snap or captured > len(octets):
@@ -153,7 +159,7 @@ def packet(order: str, block: bytes, kind: int, interfaces: list) -> tuple[int, 
     time = None
     if kind == ENHANCED and clock is not None and ((high << 32) + low) * clock < 1 << 64:
         time = ((high << 32) + low) * clock
-    return *unchecked(checks, original, octets[:captured]), time
+    return cooked, checks, original, octets[:captured], time
 
 
 def told(file: bytes) -> str:
@@ -177,28 +183,6 @@ COOKED = {
     276: (20, {"way": (10, 1), "device": (8, 2), "size": (11, 1), "address": (12, 6), "protocol": (0, 2)}),
 }
 ETHERNET_DEVICE, NO_GROUP, NOBODY = 1, bytes.fromhex("010000000000"), bytes.fromhex("020000000000")
-
-
-def uncooked(file: bytes, own: bytes) -> list[tuple[int, bytes, int]] | None:
-    """The frames of a classic capture of cooked packets, up to the first record that is not whole; none of another file."""
-    if file[:4] not in CLASSIC or len(file) < 24:
-        return None
-    order, unit = CLASSIC[file[:4]]
-    (link,) = struct.unpack_from(order + "I", file, 20)
-    if link not in COOKED:
-        return None
-    at, frames = 24, []
-    while at + 16 <= len(file):
-        seconds, part, captured, original = struct.unpack_from(order + "IIII", file, at)
-        at += 16
-        packet = file[at : at + captured]
-        if len(packet) < captured:
-            break
-        at += captured
-        if front := front_of(packet, original, own, *COOKED[link]):
-            behind = packet[COOKED[link][0] :]
-            frames.append((14 + original - COOKED[link][0], front + behind, seconds * 10**9 + part * unit))
-    return frames
 
 
 def front_of(packet: bytes, original: int, own: bytes, size: int, fields: dict) -> bytes | None:

@@ -99,10 +99,14 @@ left_behind room left = option_map (after_next room) left
 
 -- ---- opening
 
+-- the address that a machine has where nobody says otherwise: so has the one that made a capture of cooked packets
+abbrev pub own_address : List ℕ
+own_address = 0x52 ∷ 0x54 ∷ 0x00 ∷ 0x12 ∷ 0x34 ∷ 0x56 ∷ []
+
 -- a capture that is held stays; else its frames are there then, as em_pcap reads them of the octets of its file, unless
 -- memory is refused
 abbrev pub IsOpened : List ℕ → ℕ → Option Frames → Type 0
-IsOpened file code (Some f) = (code ≡ 0) × (reading_in f ≡ reading_of file)
+IsOpened file code (Some f) = (code ≡ 0) × (reading_in f ≡ reading_of own_address file)
 IsOpened file code None = code ≡ number_of Memory
 
 abbrev pub Opens : Option Frames → List ℕ → ℕ → Option Frames → Type 0

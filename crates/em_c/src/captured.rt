@@ -4,7 +4,7 @@ ghost use Rattle.em_pcap.specs.Frame.{frame_of};
 ghost use Rattle.em_pcap.specs.Reading.{reading_of};
 ghost use Rattle.em_c.specs.Refused.{number, told};
 ghost use Rattle.em_c.specs.Looks.{laid_into, length_of};
-ghost use Rattle.em_c.specs.Pcap.{Adds, after_next, end_of, fault_in, first_in, frame_told, of_fault, octets_of, reading_in};
+ghost use Rattle.em_c.specs.Pcap.{Adds, after_next, end_of, fault_in, first_in, frame_told, of_fault, octets_of, own_address, reading_in};
 ghost use Rattle.em_c.specs.Pcap.{told_into};
 
 use crate::refused::Refused;
@@ -13,6 +13,10 @@ use crate::told::flag;
 use em_pcap::{Capture, CaptureError, CaptureFault, FaultKind, Packet};
 use std::alloc::Global;
 use std::collections::VecDeque;
+
+/// The address that a machine has where nobody says otherwise: what cooked packets say went to the machine that made a
+/// capture is a frame to it.
+const OWN: [u8; 6] = [0x52, 0x54, 0x00, 0x12, 0x34, 0x56];
 
 /// A frame of a capture, beside its octets.
 #[repr(C)]
@@ -47,14 +51,14 @@ pub struct Frames {
 impl Frames {
     /// All frames of a capture, by the octets of its file.
     pub fn read(alloc: Global, file: &[u8]) -> Result<Frames, Refused>
-        ensures ok { IfOk result (λ frames. reading_in frames ≡ reading_of file.now) }
+        ensures ok { IfOk result (λ frames. reading_in frames ≡ reading_of own_address file.now) }
         ensures err { IfErr result (λ refused. refused ≡ Refused.Memory) }
     {
         let mut frames = Frames {
             queue: VecDeque::new(alloc),
             fault: None,
         };
-        let mut capture = Capture::new(alloc, file);
+        let mut capture = Capture::new(alloc, file, OWN);
         'packets: loop {
             match capture.next_packet() {
                 None => return Ok(frames),
@@ -76,7 +80,7 @@ impl Frames {
     fn add(&mut self, alloc: Global, packet: &Packet<'_>) -> bool
         ensures { Adds (frame_of packet.now) self.old self.new result }
     {
-        let Ok(octets) = Vec::from_slice(alloc, packet.octets) else {
+        let Ok(octets) = packet.to_vec(alloc) else {
             return false;
         };
         let captured = Captured {

@@ -3,7 +3,18 @@ ghost use Rattle.std.specs.Prelude.{◌≡◌, ◌↔◌, None, Some, Option, Is
 ghost use Rattle.em_pcap.specs.Reading.{reading_of};
 ghost use Rattle.em_c.specs.Refused.{number, told, Shows};
 ghost use Rattle.em_c.specs.Looks.{laid_into, length_of};
-ghost use Rattle.em_c.specs.Pcap.{Opens, asked, fault_in, left_behind, left_in, next_in, octets_of, reading_in, told_into};
+ghost use Rattle.em_c.specs.Pcap.{
+  Opens,
+  asked,
+  fault_in,
+  left_behind,
+  left_in,
+  next_in,
+  octets_of,
+  own_address,
+  reading_in,
+  told_into,
+};
 
 use crate::captured::{EmPcapFrame, Frames};
 use crate::parts::Parts;
@@ -105,7 +116,7 @@ pub extern "C" fn em_pcap_close(alloc: Global, pcap: &mut EmPcap)
 
 /// The frames of a capture in a box.
 fn frames_of(alloc: Global, octets: &[u8]) -> Result<Box<Frames>, Refused>
-    ensures ok { IfOk result (λ frames. reading_in frames.value ≡ reading_of octets.now) }
+    ensures ok { IfOk result (λ frames. reading_in frames.value ≡ reading_of own_address octets.now) }
     ensures err { IfErr result (λ refused. refused ≡ Refused.Memory) }
 {
     let frames = Frames::read(alloc, octets)?;

@@ -67,7 +67,7 @@ wrote_text count = counted_text (codes "wrote ") count (codes " frame\n") (codes
 -- the capture's frames are offered
 pub record OffersFrames (old new : Debugger) (file text : List ℕ) : Type 0 where
   pub arrivals : Arrivals
-  pub are : AreArrivals (reading_of file) arrivals
+  pub are : AreArrivals (reading_of old.settings.mac file) arrivals
   pub offers : new ≡ record old { offered = arrivals.lines }
   pub told : TellsOffer (length arrivals.lines.items) arrivals.cut arrivals.padded arrivals.error text
 

@@ -29,7 +29,8 @@ const CLASSIC: &[u8; 5] = b".pcap";
 const NEXT: &[u8; 7] = b".pcapng";
 
 impl Debugger {
-    /// Offers the frames of a capture to `arrive`, in the place of those that are offered so far.
+    /// Offers the frames of a capture to `arrive`, in the place of those that are offered so far. What cooked packets say
+    /// went to the machine that made it is offered to this adapter.
     pub(crate) fn offer<W: Write>(&mut self, writer: &mut W, file: &[u8]) -> Result<(), WriteFailed>
         ensures ok { OnOk result ((text : List ℕ) × Appends (W.contents writer.old) (W.contents writer.new) text
             × OffersFrames self.old self.new file.now text) }
@@ -39,7 +40,7 @@ impl Debugger {
             cut,
             padded,
             error,
-        } = arrivals_of(self.alloc, file);
+        } = arrivals_of(self.alloc, file, self.settings.mac);
         let count = lines.len();
         self.offered = lines;
         write_offer(self.alloc, writer, count, cut, padded, error)

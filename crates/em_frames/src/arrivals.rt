@@ -1,8 +1,8 @@
 //! The frames of a capture as lines of a script that bring them.
-ghost use Rattle.std.specs.Prelude.{◌≡◌, [], None};
+ghost use Rattle.std.specs.Prelude.{◌≡◌, ◌++◌, [], None};
 ghost use Rattle.em_pcap.specs.Frame.{frame_of};
 ghost use Rattle.em_pcap.specs.Reading.{reading_of};
-ghost use Rattle.em_text.specs.Writer.{Writes};
+ghost use Rattle.em_text.specs.Writer.{Writes, hex_text};
 ghost use Rattle.em_frames.specs.Arrivals.{Adds, AreArrivals, arrival_of, is_unpadded, padding_text, with_frame};
 ghost use Rattle.em_frames.specs.Arrivals.{with_padded};
 
@@ -57,13 +57,13 @@ impl Arrivals {
     }
 }
 
-/// The frames of a capture, from the octets of its file. Where memory is refused, those up to there, and the error says
-/// so.
-pub fn arrivals_of(alloc: Global, file: &[u8]) -> Arrivals
-    ensures { AreArrivals (reading_of file.now) result }
+/// The frames of a capture, from the octets of its file, which a machine of this address made. Where memory is refused,
+/// those up to there, and the error says so.
+pub fn arrivals_of(alloc: Global, file: &[u8], own: [u8; 6]) -> Arrivals
+    ensures { AreArrivals (reading_of own file.now) result }
 {
     let mut arrivals = Arrivals::none(alloc);
-    let mut capture = Capture::new(alloc, file);
+    let mut capture = Capture::new(alloc, file, own);
     'packets: loop {
         match capture.next_packet() {
             None => return arrivals,
@@ -108,7 +108,7 @@ fn with_padded(padded: u64, packet: &Packet<'_>) -> u64
 pub fn is_unpadded(packet: &Packet<'_>) -> bool
     ensures { result ≡ is_unpadded (frame_of packet.now) }
 {
-    packet.original < LEAST_FRAME && packet.octets.len() < LEAST_FRAME as usize
+    packet.original < LEAST_FRAME && packet.captured() < LEAST_FRAME as usize
 }
 
 /// Writes the line that brings a captured frame, without a newline: `arrive DATA` with what was captured of it, and 60
@@ -117,8 +117,28 @@ pub fn write_arrival<W: Write>(writer: &mut W, packet: &Packet<'_>) -> Result<()
     ensures writes { Writes (W.contents writer.old) (W.contents writer.new) result (arrival_of (frame_of packet.now)) }
 {
     write_whole(writer, b"arrive ")?;
-    write_octets(writer, packet.octets)?;
+    write_frame(writer, packet)?;
     write_padding(writer, is_unpadded(packet))
+}
+
+/// Writes what was captured of a frame.
+fn write_frame<W: Write>(writer: &mut W, packet: &Packet<'_>) -> Result<(), WriteFailed>
+    ensures writes { Writes (W.contents writer.old) (W.contents writer.new) result
+        (hex_text (frame_of packet.now).octets) }
+{
+    match packet.header {
+        Some(header) => write_both(writer, header.as_slice(), packet.octets),
+        None => write_octets(writer, packet.octets),
+    }
+}
+
+/// Writes octets, and others behind them.
+fn write_both<W: Write>(writer: &mut W, front: &[u8], behind: &[u8]) -> Result<(), WriteFailed>
+    ensures writes { Writes (W.contents writer.old) (W.contents writer.new) result
+        (hex_text front.now ++ hex_text behind.now) }
+{
+    write_octets(writer, front)?;
+    write_octets(writer, behind)
 }
 
 /// Writes how long a frame is that is padded, behind its octets.

@@ -110,18 +110,18 @@ adds_moved form before interfaces offset len file e =
 
 -- at most one for each octet, and one more
 pub calls_most : (form : Form) (octets : ℕ) → calls_in form octets ≤ octets + 1
-calls_most Start octets = omega arith
+calls_most (Start own) octets = omega arith
 calls_most (Classic header) octets = omega arith
-calls_most (Section order) octets = omega arith
+calls_most (Section order own) octets = omega arith
 calls_most Done octets = omega arith
 
 -- so many, where something stands there
 pub calls_there : (form : Form) (interfaces : List Interface) (octets : List ℕ) (step : Step) (n : ℕ)
     → step ≡ step_of form interfaces octets → (step ≡ Ends → ⊥) → calls_in form n ≡ n + 1
 unfolding step_of
-calls_there Start interfaces octets step n e h = refl
+calls_there (Start own) interfaces octets step n e h = refl
 calls_there (Classic header) interfaces octets step n e h = refl
-calls_there (Section order) interfaces octets step n e h = refl
+calls_there (Section order own) interfaces octets step n e h = refl
 calls_there Done interfaces octets step n e h = absurd (h e)
 
 -- fewer calls can still give something so much further on

@@ -1,6 +1,6 @@
 -- A capture that is written, and read again.
 use Rattle.std.proofs.Common.{◌≡◌, ℕ, ◌+◌, ◌-◌, ◌*◌, ◌/◌, ◌%◌, ◌<◌, ◌≤◌, List, [], ◌∷◌, ◌++◌, length, take, drop, map, All}
-use Rattle.std.proofs.Common.{false, eqb, ltb, Some, refl, sym, ap, ◌∙◌, arith, append-nil, length-append}
+use Rattle.std.proofs.Common.{false, eqb, ltb, Some, None, refl, sym, ap, ◌∙◌, arith, append-nil, length-append}
 use Rattle.std.proofs.Common.{get_or, append_assoc, take-append-drop}
 use Rattle.std.proofs.lemmas.List.{drop_more, take_all}
 use Rattle.std.proofs.lemmas.List.Concat.{flat_map-append}
@@ -13,6 +13,7 @@ use Rattle.byteorder.specs.Numbers.{little_number-reads_back}
 use Rattle.em_pcap.specs.declared.order.Order.TheVariants.{Little}
 use Rattle.em_pcap.specs.declared.form.Unit.TheVariants.{Nanoseconds}
 use Rattle.em_pcap.specs.declared.form.Header.{Header}
+use Rattle.em_pcap.specs.declared.form.Link.TheVariants.{Ethernet}
 use Rattle.em_pcap.specs.declared.form.Form.TheVariants.{Start, Classic}
 use Rattle.em_pcap.specs.declared.form.Found.{Found}
 use Rattle.em_pcap.specs.declared.form.Step.TheVariants.{Gives, Opens}
@@ -63,7 +64,7 @@ all_there front frames i le =
 
 -- what the file header says
 abbrev pub written : Header
-written = record { order = Little; unit = Nanoseconds; snap = 65535; fcs = 0 }
+written = record { order = Little; unit = Nanoseconds; snap = 65535; link = Ethernet 0 }
 
 abbrev four : ℕ → ℕ → ℕ → ℕ → List ℕ → List ℕ
 four a b c d rest =
@@ -97,6 +98,7 @@ found_of frame = record {
   captured = length frame.octets;
   original = length frame.octets;
   time = Some frame.time;
+  header = None;
 }
 
 -- by its fields
@@ -171,9 +173,9 @@ records_read (frame ∷ frames) offset fits =
 
 -- ---- the header of the file
 
-header_read : (records : List ℕ) → step_of Start [] (header_text ++ records) ≡ Opens 24 (Classic written)
+header_read : (own records : List ℕ) → step_of (Start own) [] (header_text ++ records) ≡ Opens 24 (Classic written)
 unfolding step_of header_text number
-header_read records =
+header_read own records =
     let file = header_text ++ records in
     let magic : ltb (length file) 4 ≡ false = le-ltb (length file) 4 (omega arith) in
     let whole : ltb (length file) 24 ≡ false = le-ltb (length file) 24 (omega arith) in
@@ -187,11 +189,12 @@ behind_header : (records : List ℕ) → drop 24 (header_text ++ records) ≡ re
 unfolding header_text
 behind_header records = refl
 
-pub all_are_read : (frames : List Timed) → All Fits frames → reading_of (capture_text frames) ≡ all_read frames
-all_are_read frames fits =
+pub all_are_read : (own : List ℕ) (frames : List Timed) → All Fits frames
+    → reading_of own (capture_text frames) ≡ all_read frames
+all_are_read own frames fits =
     let records = flat_map record_text frames in
     let long = long_header records in
-    let here = stands_there Start [] 0 (header_text ++ records) (Opens 24 (Classic written)) (sym (header_read records))
+    let here = stands_there (Start own) [] 0 (header_text ++ records) (Opens 24 (Classic written)) (sym (header_read own records))
     (omega arith, long) in
     here ∙ ap (reading_from (Classic written) [] 0 24) (behind_header records)
     ∙ records_read frames 24 (recursion_from_All Fits frames fits)

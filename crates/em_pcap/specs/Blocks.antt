@@ -8,13 +8,14 @@ use Rattle.em_pcap.specs.declared.fault.FaultKind.{FaultKind}
 use Rattle.em_pcap.specs.declared.fault.FaultKind.TheVariants.{Magic, Version, CutShort, BlockLength, LinkType}
 use Rattle.em_pcap.specs.declared.fault.FaultKind.TheVariants.{CapturedLength, NoInterface}
 use Rattle.em_pcap.specs.declared.form.Interface.{Interface}
+use Rattle.em_pcap.specs.declared.form.Link.{Link}
 use Rattle.em_pcap.specs.declared.form.Found.{Found}
 use Rattle.em_pcap.specs.declared.form.Form.TheVariants.{Section}
 use Rattle.em_pcap.specs.declared.form.Step.{Step}
-use Rattle.em_pcap.specs.declared.form.Step.TheVariants.{Ends, Stops, Gives, Opens, Adds, Skips}
+use Rattle.em_pcap.specs.declared.form.Step.TheVariants.{Ends, Stops, Opens, Adds, Skips}
 use Rattle.em_pcap.specs.Fields.{u16, u32}
 use Rattle.em_pcap.specs.Classic.{is_beyond}
-use Rattle.em_pcap.specs.Fcs.{without_fcs}
+use Rattle.em_pcap.specs.Link.{link_of, frame_step}
 use Rattle.em_pcap.specs.Options.{tick_of, fcs_of}
 
 -- ---- any block: block_type, block_total_length, a body, and block_total_length again
@@ -80,9 +81,9 @@ section_order block =
 abbrev pub order_of : Order → List ℕ → Option Order
 order_of order block = if block_type Little block == section_header then section_order block else Some order
 
-abbrev pub section_step : Order → List ℕ → Step
-section_step order block =
-    if major_version order block == 1 then Opens (block_total_length order block) (Section order)
+abbrev pub section_step : List ℕ → Order → List ℕ → Step
+section_step own order block =
+    if major_version order block == 1 then Opens (block_total_length order block) (Section order own)
     else Stops Version
 
 -- ---- an interface description: link_type, reserved, snap_len, options
@@ -96,22 +97,21 @@ snap_len order block = u32 order 12 block
 abbrev pub options : Order → List ℕ → List ℕ
 options order block = slice_range block 16 (block_total_length order block - 4)
 
-abbrev pub interface_of : Order → List ℕ → ℕ → Interface
-interface_of order block fcs = record {
+abbrev pub interface_of : Order → List ℕ → Link → Interface
+interface_of order block link = record {
   snap = snap_len order block;
-  fcs = fcs;
+  link = link;
   tick = tick_of order (options order block);
 }
 
--- an interface of whose frame check sequences it is known how many octets they have
-abbrev pub described : Order → List ℕ → Option ℕ → Step
+-- an interface of which it is known what its packets are
+abbrev pub described : Order → List ℕ → Option Link → Step
 described order block None = Stops LinkType
-described order block (Some fcs) = Adds (block_total_length order block) (interface_of order block fcs)
+described order block (Some link) = Adds (block_total_length order block) (interface_of order block link)
 
-abbrev pub interface_step : Order → List ℕ → Step
-interface_step order block =
-    if link_type order block == 1 then described order block (fcs_of order (options order block))
-    else Stops LinkType
+abbrev pub interface_step : List ℕ → Order → List ℕ → Step
+interface_step own order block =
+    described order block (link_of own (link_type order block) (fcs_of order (options order block)))
 
 -- ---- packets
 
@@ -120,12 +120,11 @@ abbrev pub of_interface : Option Interface → (Interface → Step) → Step
 of_interface None step = Stops NoInterface
 of_interface (Some interface) step = step interface
 
--- a packet with a frame check sequence of so many octets, of which a snap length and so much room in its block allow so
--- many octets
-abbrev pub packet_step : ℕ → ℕ → ℕ → Found → Step
-packet_step snap fcs room found =
-    if is_beyond snap found.captured || nat_lt room found.captured then Stops CapturedLength
-    else Gives (without_fcs fcs found)
+-- a packet of an interface, of which its snap length and so much room in the block allow so many octets
+abbrev pub packet_step : Interface → ℕ → List ℕ → Found → Step
+packet_step interface room block found =
+    if is_beyond interface.snap found.captured || nat_lt room found.captured then Stops CapturedLength
+    else frame_step interface.link block found
 
 -- so many ticks of a clock in nanoseconds, where that is known and fits 64 bits
 abbrev pub time_of : Option ℕ → ℕ → Option ℕ
@@ -157,11 +156,12 @@ enhanced_of order block interface = record {
   captured = captured_packet_length order block;
   original = original_packet_length order block;
   time = time_of interface.tick (timestamp_high order block * 0x100000000 + timestamp_low order block);
+  header = None;
 }
 
 abbrev pub enhanced_in : Order → List ℕ → Interface → Step
 enhanced_in order block interface =
-    packet_step interface.snap interface.fcs (block_total_length order block - 32) (enhanced_of order block interface)
+    packet_step interface (block_total_length order block - 32) block (enhanced_of order block interface)
 
 abbrev pub enhanced_step : Order → List Interface → List ℕ → Step
 enhanced_step order interfaces block =
@@ -183,21 +183,21 @@ simple_of order block interface = record {
   captured = snapped interface.snap (simple_original_length order block);
   original = simple_original_length order block;
   time = None;
+  header = None;
 }
 
 abbrev pub simple_step : Order → List Interface → List ℕ → Step
 simple_step order interfaces block =
     of_interface (slice_get interfaces 0)
-    (λ interface. packet_step interface.snap interface.fcs (block_total_length order block - 16)
-    (simple_of order block interface))
+    (λ interface. packet_step interface (block_total_length order block - 16) block (simple_of order block interface))
 
 -- ---- what a block is
 
-unfoldable pub body_step : Order → List Interface → List ℕ → Step
-body_step order interfaces block =
+unfoldable pub body_step : List ℕ → Order → List Interface → List ℕ → Step
+body_step own order interfaces block =
     let kind = block_type order block in
-    if kind == section_header then section_step order block
-    else if kind == interface_description then interface_step order block
+    if kind == section_header then section_step own order block
+    else if kind == interface_description then interface_step own order block
     else if kind == simple_packet then simple_step order interfaces block
     else if kind == enhanced_packet then enhanced_step order interfaces block
     else Skips (block_total_length order block)
@@ -213,9 +213,9 @@ in_order None step = Stops Magic
 in_order (Some order) step = step order
 
 -- what stands at the front of these octets, in a section of this order with these interfaces
-abbrev pub block_step : Order → List Interface → List ℕ → Step
-block_step order interfaces octets =
+abbrev pub block_step : List ℕ → Order → List Interface → List ℕ → Step
+block_step own order interfaces octets =
     if length octets == 0 then Ends
     else if nat_lt (length octets) 12 then Stops CutShort
     else in_order (order_of order octets)
-    (λ order. unless (length_fault order octets) (body_step order interfaces octets))
+    (λ order. unless (length_fault order octets) (body_step own order interfaces octets))

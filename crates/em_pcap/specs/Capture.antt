@@ -48,9 +48,9 @@ IsRefusedThere capture given = given ≡ Some (Err Memory) → adds_next capture
 
 abbrev pub calls_in : Form → ℕ → ℕ
 calls_in Done octets = 0
-calls_in Start octets = octets + 1
+calls_in (Start own) octets = octets + 1
 calls_in (Classic header) octets = octets + 1
-calls_in (Section order) octets = octets + 1
+calls_in (Section order own) octets = octets + 1
 
 abbrev pub calls_left : Capture → ℕ
 calls_left capture = calls_in capture.form (length capture.file.now - capture.offset)

@@ -6,11 +6,12 @@ use Rattle.em_pcap.specs.declared.fault.FaultKind.TheVariants.{Version, CutShort
 use Rattle.em_pcap.specs.declared.form.Unit.{Unit as TimeUnit}
 use Rattle.em_pcap.specs.declared.form.Unit.TheVariants.{Microseconds, Nanoseconds}
 use Rattle.em_pcap.specs.declared.form.Header.{Header}
+use Rattle.em_pcap.specs.declared.form.Link.{Link}
 use Rattle.em_pcap.specs.declared.form.Form.TheVariants.{Classic}
 use Rattle.em_pcap.specs.declared.form.Step.{Step}
-use Rattle.em_pcap.specs.declared.form.Step.TheVariants.{Ends, Stops, Gives, Opens}
+use Rattle.em_pcap.specs.declared.form.Step.TheVariants.{Ends, Stops, Opens}
 use Rattle.em_pcap.specs.Fields.{u16, u32}
-use Rattle.em_pcap.specs.Fcs.{fcs_in_network, without_fcs}
+use Rattle.em_pcap.specs.Link.{link_in_network, frame_step}
 
 -- ---- the file header: 24 octets
 
@@ -44,18 +45,18 @@ magic_of file =
     else if magic_number Big file == 0xA1B23C4D then Some (Big, Nanoseconds)
     else None
 
--- what the header says of the records, where it says that they are of Ethernet, and of its frame check sequences
-abbrev pub opens : Order → TimeUnit → ℕ → Option ℕ → Step
+-- what the header says of the records, where it is known what their packets are
+abbrev pub opens : Order → TimeUnit → ℕ → Option Link → Step
 opens order unit snap None = Stops LinkType
-opens order unit snap (Some fcs) =
-    Opens 24 (Classic (record { order = order; unit = unit; snap = snap; fcs = fcs }))
+opens order unit snap (Some link) =
+    Opens 24 (Classic (record { order = order; unit = unit; snap = snap; link = link }))
 
--- version 2.x, Ethernet
-abbrev pub header_step : Order → TimeUnit → List ℕ → Step
-header_step order unit file =
+-- version 2.x, Ethernet or cooked packets
+abbrev pub header_step : List ℕ → Order → TimeUnit → List ℕ → Step
+header_step own order unit file =
     if nat_lt (length file) 24 then Stops CutShort
     else if version_major order file == 2
-    then opens order unit (snaplen order file) (fcs_in_network (network order file))
+    then opens order unit (snaplen order file) (link_in_network own (network order file))
     else Stops Version
 
 -- ---- a record: a header of 16 octets, and as many octets of a packet as incl_len says
@@ -89,10 +90,11 @@ record_step header octets =
     else if nat_lt (length octets) 16 then Stops CutShort
     else if is_beyond header.snap captured then Stops CapturedLength
     else if nat_lt (length octets) (16 + captured) then Stops CutShort
-    else Gives (without_fcs header.fcs (record {
+    else frame_step header.link octets (record {
       len = 16 + captured;
       at = 16;
       captured = captured;
       original = orig_len order octets;
       time = Some (ts_sec order octets * 1000000000 + ts_fraction order octets * nanoseconds_of header.unit);
-    }))
+      header = None;
+    })

@@ -28,4 +28,5 @@ without_fcs fcs found = record {
   captured = found.captured - (fcs - (found.original - found.captured));
   original = found.original - fcs;
   time = found.time;
+  header = found.header;
 }

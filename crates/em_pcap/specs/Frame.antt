@@ -1,5 +1,5 @@
 -- A captured frame, without where its octets lie in memory.
-use Rattle.std.specs.Prelude.{ℕ, List, length, Option, Some, None, nat_lt, if◌then◌else◌}
+use Rattle.std.specs.Prelude.{ℕ, List, [], ◌++◌, length, Option, Some, None, nat_lt, if◌then◌else◌}
 use Rattle.em_pcap.specs.declared.packet.Packet.{Packet}
 use Rattle.em_pcap.specs.declared.packet.Cut.{Cut}
 
@@ -11,8 +11,17 @@ pub record Frame : Type 0 where
   -- in nanoseconds since 1970 began, where the file says it
   pub time : Option ℕ
 
+-- the octets of a header, where there is one
+abbrev pub header_octets : Option (List ℕ) → List ℕ
+header_octets None = []
+header_octets (Some header) = header
+
 abbrev pub frame_of : Packet → Frame
-frame_of packet = record { octets = packet.octets.now; original = packet.original; time = packet.time }
+frame_of packet = record {
+  octets = header_octets packet.header ++ packet.octets.now;
+  original = packet.original;
+  time = packet.time;
+}
 
 -- fewer octets were captured than it had
 abbrev pub cut_of : Frame → Option Cut

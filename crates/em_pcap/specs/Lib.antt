@@ -2,6 +2,8 @@ pub mod Fields
 pub mod Frame
 pub mod Step
 pub mod Fcs
+pub mod Cooked
+pub mod Link
 pub mod Classic
 pub mod Options
 pub mod Blocks

@@ -17,7 +17,7 @@ use Rattle.em_pcap.specs.declared.form.Found.{Found}
 use Rattle.em_pcap.specs.declared.form.Step.{Step}
 use Rattle.em_pcap.specs.declared.form.Step.TheVariants.{Ends, Stops, Gives, Opens, Adds, Skips}
 use Rattle.em_pcap.specs.declared.packet.Packet.{Packet}
-use Rattle.em_pcap.specs.Frame.{Frame, frame_of}
+use Rattle.em_pcap.specs.Frame.{Frame, frame_of, header_octets}
 use Rattle.em_pcap.specs.Classic.{magic_of, header_step, record_step}
 use Rattle.em_pcap.specs.Blocks.{block_type, section_header, block_step}
 
@@ -37,28 +37,32 @@ and_then frame reading = record { packets = frame ∷ reading.packets; fault = r
 
 -- ---- the front of a file: its magic number says which form it has
 
-abbrev pub classic_start : Option (Order × TimeUnit) → List ℕ → Step
-classic_start None file = Stops Magic
-classic_start (Some said) file = header_step said.0 said.1 file
+abbrev pub classic_start : List ℕ → Option (Order × TimeUnit) → List ℕ → Step
+classic_start own None file = Stops Magic
+classic_start own (Some said) file = header_step own said.0 said.1 file
 
-abbrev pub start_step : List ℕ → Step
-start_step file =
+abbrev pub start_step : List ℕ → List ℕ → Step
+start_step own file =
     if nat_lt (length file) 4 then Stops CutShort
-    else if block_type Little file == section_header then block_step Little [] file
-    else classic_start (magic_of file) file
+    else if block_type Little file == section_header then block_step own Little [] file
+    else classic_start own (magic_of file) file
 
 -- ---- what stands at a place of a file, and what the rest of the file gives
 
 unfoldable pub step_of : Form → List Interface → List ℕ → Step
-step_of Start interfaces octets = start_step octets
+step_of (Start own) interfaces octets = start_step own octets
 step_of (Classic header) interfaces octets = record_step header octets
-step_of (Section order) interfaces octets = block_step order interfaces octets
+step_of (Section order own) interfaces octets = block_step own order interfaces octets
 step_of Done interfaces octets = Ends
 
 -- the packet that lies there in these octets
 abbrev pub found_in : Found → List ℕ → Frame
 found_in found octets =
-    record { octets = take found.captured (drop found.at octets); original = found.original; time = found.time }
+    record {
+      octets = header_octets found.header ++ take found.captured (drop found.at octets);
+      original = found.original;
+      time = found.time;
+    }
 
 -- what a step gives with all that is behind it: `rest form interfaces inside` is what comes behind the first octet,
 -- where `inside` more octets belong to the step
@@ -83,9 +87,9 @@ reading_from form interfaces zero offset (octet ∷ octets) =
     (λ form interfaces inside. reading_from form interfaces inside (offset + 1) octets)
     (step_of form interfaces (octet ∷ octets))
 
--- what a file gives
-abbrev pub reading_of : List ℕ → Reading
-reading_of file = reading_from Start [] 0 0 file
+-- what a file gives that was captured by a machine of this address
+abbrev pub reading_of : List ℕ → List ℕ → Reading
+reading_of own file = reading_from (Start own) [] 0 0 file
 
 -- ---- one packet after another
 

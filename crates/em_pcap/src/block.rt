@@ -44,8 +44,13 @@ const MAJOR_VERSION: usize = 12;
 
 /// What stands at the front of these octets, in a section of this order with these interfaces.
 #[inline(always)]
-pub(crate) fn block_step(order: Order, interfaces: &[Interface], octets: &[u8]) -> Step
-    ensures step { result ≡ block_step order interfaces.now octets.now }
+pub(crate) fn block_step(
+    own: [u8; 6],
+    order: Order,
+    interfaces: &[Interface],
+    octets: &[u8],
+) -> Step
+    ensures step { result ≡ block_step own order interfaces.now octets.now }
     ensures within { IsWithin (length octets.now) result }
 {
     if octets.is_empty() {
@@ -59,7 +64,7 @@ pub(crate) fn block_step(order: Order, interfaces: &[Interface], octets: &[u8]) 
     };
     match length_fault(order, octets) {
         Some(fault) => Step::Stops(fault),
-        None => body_step(order, interfaces, octets),
+        None => body_step(own, order, interfaces, octets),
     }
 }
 
@@ -130,19 +135,19 @@ fn least_length(kind: u32) -> usize
 /// What a block is whose length is right.
 #[inline(always)]
 #[tactic(auto, unfolding(crate::specs::Blocks::body_step))]
-fn body_step(order: Order, interfaces: &[Interface], block: &[u8]) -> Step
+fn body_step(own: [u8; 6], order: Order, interfaces: &[Interface], block: &[u8]) -> Step
     requires fields { least_length (block_type order block.now) ≤ block_total_length order block.now }
     requires whole { block_total_length order block.now ≤ length block.now }
     requires head { 12 ≤ length block.now }
-    ensures step { result ≡ body_step order interfaces.now block.now }
+    ensures step { result ≡ body_step own order interfaces.now block.now }
     ensures within { IsWithin (length block.now) result }
 {
     let kind = order.u32_at(block, BLOCK_TYPE);
     let len = order.u32_at(block, BLOCK_TOTAL_LENGTH) as usize;
     if kind == SECTION_HEADER {
-        section_step(order, block, len)
+        section_step(own, order, block, len)
     } else if kind == INTERFACE_DESCRIPTION {
-        interface_step(order, block, len)
+        interface_step(own, order, block, len)
     } else if kind == SIMPLE_PACKET {
         simple_step(order, interfaces, block, len)
     } else if kind == ENHANCED_PACKET {
@@ -153,15 +158,15 @@ fn body_step(order: Order, interfaces: &[Interface], block: &[u8]) -> Step
 }
 
 /// A section header of so many octets.
-fn section_step(order: Order, block: &[u8], len: usize) -> Step
+fn section_step(own: [u8; 6], order: Order, block: &[u8], len: usize) -> Step
     requires len { len ≡ block_total_length order block.now }
     requires fields { 28 ≤ len }
     requires whole { len ≤ length block.now }
-    ensures step { result ≡ section_step order block.now }
+    ensures step { result ≡ section_step own order block.now }
     ensures within { IsWithin (length block.now) result }
 {
     if order.u16_at(block, MAJOR_VERSION) != VERSION {
         return Step::Stops(FaultKind::Version);
     }
-    Step::Opens(len, Form::Section(order))
+    Step::Opens(len, Form::Section(order, own))
 }

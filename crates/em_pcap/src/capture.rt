@@ -29,14 +29,15 @@ impl<'a> Capture<'a> {
     ghost use Rattle.em_pcap.specs.Reading.{reading_of, IsNext};
     ghost use Rattle.em_pcap.specs.Capture.{left_of, IsRefusedThere, calls_left};
 
-    /// A capture of which nothing is read yet.
-    pub fn new(alloc: Global, file: &'a [u8]) -> Capture<'a>
-        ensures { left_of result ≡ reading_of file.now }
+    /// A capture of which nothing is read yet, made by a machine of this address: what Linux's cooked packets say went to
+    /// it is a frame to this address. Frames have their own, and ask for none.
+    pub fn new(alloc: Global, file: &'a [u8], own: [u8; 6]) -> Capture<'a>
+        ensures { left_of result ≡ reading_of own file.now }
     {
         Capture {
             file,
             offset: 0,
-            form: Form::Start,
+            form: Form::Start(own),
             interfaces: Vec::new(alloc),
         }
     }
@@ -62,6 +63,7 @@ impl<'a> Capture<'a> {
                 Step::Gives(found) => {
                     self.offset += found.len;
                     return Some(Ok(Packet {
+                        header: found.header,
                         octets: &rest[found.at..found.at + found.captured],
                         original: found.original,
                         time: found.time,
@@ -108,27 +110,27 @@ fn step(form: Form, interfaces: &[Interface], octets: &[u8]) -> Step
     ensures within { IsWithin (length octets.now) result }
 {
     match form {
-        Form::Start => start_step(octets),
+        Form::Start(own) => start_step(own, octets),
         Form::Classic(header) => record_step(header, octets),
-        Form::Section(order) => block_step(order, interfaces, octets),
+        Form::Section(order, own) => block_step(own, order, interfaces, octets),
         Form::Done => Step::Ends,
     }
 }
 
 /// What stands at the front of a file.
 #[inline(never)]
-fn start_step(file: &[u8]) -> Step
-    ensures step { result ≡ start_step file.now }
+fn start_step(own: [u8; 6], file: &[u8]) -> Step
+    ensures step { result ≡ start_step own file.now }
     ensures within { IsWithin (length file.now) result }
 {
     if file.len() < MAGIC {
         return Step::Stops(FaultKind::CutShort);
     }
     if Order::Little.u32_at(file, BLOCK_TYPE) == SECTION_HEADER {
-        return block_step(Order::Little, &[], file);
+        return block_step(own, Order::Little, &[], file);
     }
     match magic_of(file) {
-        Some((order, unit)) => header_step(order, unit, file),
+        Some((order, unit)) => header_step(own, order, unit, file),
         None => Step::Stops(FaultKind::Magic),
     }
 }

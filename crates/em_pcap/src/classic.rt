@@ -4,8 +4,8 @@ ghost use Rattle.em_pcap.specs.Classic.{magic_of, header_step, record_step, is_b
 ghost use Rattle.em_pcap.specs.Step.{IsWithin};
 
 use crate::fault::FaultKind;
-use crate::fcs::{fcs_in_network, without_fcs};
 use crate::form::{Form, Found, Header, Step, Unit};
+use crate::link::{frame_step, link_in_network};
 use crate::order::Order;
 
 /// The magic number of a file whose times are in microseconds.
@@ -65,8 +65,8 @@ pub(crate) fn magic_of(octets: &[u8]) -> Option<(Order, Unit)>
 }
 
 /// The header of a classic file.
-pub(crate) fn header_step(order: Order, unit: Unit, octets: &[u8]) -> Step
-    ensures step { result ≡ header_step order unit octets.now }
+pub(crate) fn header_step(own: [u8; 6], order: Order, unit: Unit, octets: &[u8]) -> Step
+    ensures step { result ≡ header_step own order unit octets.now }
     ensures within { IsWithin (length octets.now) result }
 {
     if octets.len() < FILE_HEADER {
@@ -76,14 +76,14 @@ pub(crate) fn header_step(order: Order, unit: Unit, octets: &[u8]) -> Step
         return Step::Stops(FaultKind::Version);
     }
     let snap = order.u32_at(octets, SNAPLEN);
-    let Some(fcs) = fcs_in_network(order.u32_at(octets, NETWORK)) else {
+    let Some(link) = link_in_network(own, order.u32_at(octets, NETWORK)) else {
         return Step::Stops(FaultKind::LinkType);
     };
     let header = Header {
         order,
         unit,
         snap,
-        fcs,
+        link,
     };
     Step::Opens(FILE_HEADER, Form::Classic(header))
 }
@@ -104,7 +104,7 @@ pub(crate) fn record_step(header: Header, octets: &[u8]) -> Step
         order,
         unit,
         snap,
-        fcs,
+        link,
     } = header;
     let seconds = u64::from(order.u32_at(octets, TS_SEC));
     let within = u64::from(order.u32_at(octets, TS_FRACTION));
@@ -123,8 +123,9 @@ pub(crate) fn record_step(header: Header, octets: &[u8]) -> Step
         captured,
         original,
         time: Some(seconds * SECOND + within * unit.nanoseconds()),
+        header: None,
     };
-    Step::Gives(without_fcs(fcs, found))
+    frame_step(link, octets, found)
 }
 
 /// Whether so many captured octets are more than a snap length allows, where 0 allows any number.

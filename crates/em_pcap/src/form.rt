@@ -2,20 +2,30 @@
 ghost use Rattle.std.specs.Prelude.{◌≡◌, ◌≤◌};
 ghost use Rattle.em_pcap.specs.Classic.{nanoseconds_of};
 
+use crate::cooked::Cooking;
 use crate::fault::FaultKind;
 use crate::order::Order;
 
 /// What is known of a capture at a place in it.
 #[derive(Clone, Copy)]
 pub(crate) enum Form {
-    /// Nothing: the file begins here.
-    Start,
+    /// Nothing: the file begins here, and was captured by a machine of this address.
+    Start([u8; 6]),
     /// It is a classic file, and what its header says of the records.
     Classic(Header),
-    /// It is a pcapng file, and the order of the section.
-    Section(Order),
+    /// It is a pcapng file, and the order of the section; and that address.
+    Section(Order, [u8; 6]),
     /// Nothing is read any more.
     Done,
+}
+
+/// What the packets of a capture are.
+#[derive(Clone, Copy)]
+pub(crate) enum Link {
+    /// Ethernet frames, each with so many octets of a frame check sequence behind it.
+    Ethernet(u32),
+    /// Linux's cooked packets with such a header, captured by a machine of this address.
+    Cooked(Cooking, [u8; 6]),
 }
 
 /// What the header of a classic file says of its records.
@@ -25,8 +35,8 @@ pub(crate) struct Header {
     pub(crate) unit: Unit,
     /// The most octets of a packet; 0 for any number.
     pub(crate) snap: u32,
-    /// How many octets of a frame check sequence follow each frame.
-    pub(crate) fcs: u32,
+    /// What its packets are.
+    pub(crate) link: Link,
 }
 
 /// What is counted within a second.
@@ -50,13 +60,13 @@ impl Unit {
     }
 }
 
-/// What the description of an Ethernet interface says of its packets.
+/// What the description of an interface says of its packets.
 #[derive(Clone, Copy)]
 pub(crate) struct Interface {
     /// The most octets of a packet; 0 for any number.
     pub(crate) snap: u32,
-    /// How many octets of a frame check sequence follow each frame.
-    pub(crate) fcs: u32,
+    /// What its packets are.
+    pub(crate) link: Link,
     /// How many nanoseconds its clock counts as one; none where that is not known.
     pub(crate) tick: Option<u64>,
 }
@@ -71,6 +81,8 @@ pub(crate) struct Found {
     pub(crate) captured: usize,
     pub(crate) original: u32,
     pub(crate) time: Option<u64>,
+    /// The Ethernet header before them, where the packet had another one.
+    pub(crate) header: Option<[u8; 14]>,
 }
 
 /// What stands at a place in a capture. The numbers say how many octets it has.

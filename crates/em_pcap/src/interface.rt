@@ -8,10 +8,8 @@ use crate::block::LENGTH_AGAIN;
 use crate::fault::FaultKind;
 use crate::fcs::fcs_in;
 use crate::form::{Interface, Step};
+use crate::link::link_of;
 use crate::order::Order;
-
-/// The link type of Ethernet.
-const ETHERNET: u16 = 1;
 
 /// Where the fields of a description lie that are read.
 const LINK_TYPE: usize = 8;
@@ -61,23 +59,21 @@ const DECIMAL_TICKS: [u64; 10] = [
 ];
 
 /// An interface description of so many octets.
-pub(crate) fn interface_step(order: Order, block: &[u8], len: usize) -> Step
+pub(crate) fn interface_step(own: [u8; 6], order: Order, block: &[u8], len: usize) -> Step
     requires len { len ≡ block_total_length order block.now }
     requires fields { 20 ≤ len }
     requires whole { len ≤ length block.now }
-    ensures step { result ≡ interface_step order block.now }
+    ensures step { result ≡ interface_step own order block.now }
     ensures within { IsWithin (length block.now) result }
 {
-    if order.u16_at(block, LINK_TYPE) != ETHERNET {
-        return Step::Stops(FaultKind::LinkType);
-    }
+    let kind = order.u16_at(block, LINK_TYPE);
     let snap = order.u32_at(block, SNAP_LEN);
     let options = &block[OPTIONS..len - LENGTH_AGAIN];
-    let Some(fcs) = fcs_of(order, options) else {
+    let Some(link) = link_of(own, kind, fcs_of(order, options)) else {
         return Step::Stops(FaultKind::LinkType);
     };
     let tick = tick_of(order, options);
-    Step::Adds(len, Interface { snap, fcs, tick })
+    Step::Adds(len, Interface { snap, link, tick })
 }
 
 /// How many octets of a frame check sequence follow each frame of an interface, by its options.

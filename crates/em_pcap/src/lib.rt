@@ -10,11 +10,13 @@
 mod block;
 mod capture;
 mod classic;
+mod cooked;
 mod fault;
 mod fcs;
 mod form;
 mod interface;
 mod laws;
+mod link;
 mod order;
 mod packet;
 mod packet_block;

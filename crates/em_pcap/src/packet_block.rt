@@ -1,13 +1,13 @@
 //! Packet blocks of pcapng files.
-ghost use Rattle.std.specs.Prelude.{◌≡◌, ◌+◌, ◌≤◌, length};
+ghost use Rattle.std.specs.Prelude.{◌≡◌, ◌+◌, ◌<◌, ◌≤◌, length};
 ghost use Rattle.em_pcap.specs.Step.{IsWithin};
 ghost use Rattle.em_pcap.specs.Blocks.{block_total_length, enhanced_in, enhanced_step, simple_step};
 ghost use Rattle.em_pcap.specs.Blocks.{packet_step, snapped, time_of};
 
 use crate::block::LENGTH_AGAIN;
 use crate::fault::FaultKind;
-use crate::fcs::without_fcs;
 use crate::form::{Found, Interface, Step};
+use crate::link::frame_step;
 use crate::order::Order;
 
 /// Where the fields of an enhanced packet block lie, and its packet.
@@ -73,8 +73,9 @@ fn enhanced_in(order: Order, interface: Interface, block: &[u8], len: usize) -> 
         captured: captured as usize,
         original,
         time,
+        header: None,
     };
-    packet_step(interface.snap, interface.fcs, room, found)
+    packet_step(interface, room, block, found)
 }
 
 /// A simple packet block of so many octets.
@@ -96,20 +97,25 @@ pub(crate) fn simple_step(order: Order, interfaces: &[Interface], block: &[u8], 
         captured: snapped(interface.snap, original) as usize,
         original,
         time: None,
+        header: None,
     };
-    packet_step(interface.snap, interface.fcs, room, found)
+    packet_step(interface, room, block, found)
 }
 
-/// A packet with a frame check sequence of so many octets, of which a snap length and so much room in its block allow so
-/// many octets.
+/// A packet of an interface, of which its snap length and so much room in the block allow so many octets.
 #[inline(always)]
-fn packet_step(snap: u32, fcs: u32, room: usize, found: Found) -> Step
-    ensures { result ≡ packet_step snap fcs room found }
+fn packet_step(interface: Interface, room: usize, block: &[u8], found: Found) -> Step
+    requires some { 0 < found.len }
+    requires whole { found.len ≤ length block.now }
+    requires there { found.at + room ≤ length block.now }
+    ensures step { result ≡ packet_step interface room block.now found }
+    ensures within { IsWithin (length block.now) result }
 {
+    let snap = interface.snap;
     if (snap != 0 && (snap as usize) < found.captured) || room < found.captured {
         return Step::Stops(FaultKind::CapturedLength);
     }
-    Step::Gives(without_fcs(fcs, found))
+    frame_step(interface.link, block, found)
 }
 
 /// So many octets, or as many as a snap length allows.

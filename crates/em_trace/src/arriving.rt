@@ -174,7 +174,15 @@ fn pull_back(survey: &Survey, arrivals: &mut Vec<Arrival<'_>>, place: usize) {
 
 /// Whether the adapter sent a frame: its source is the adapter's address.
 fn is_own(packet: &Packet<'_>, address: Option<Address>) -> bool {
-    match (packet.octets, address) {
+    match &packet.header {
+        Some(header) => is_from(header, address),
+        None => is_from(packet.octets, address),
+    }
+}
+
+/// Whether the frame that begins with these octets has this source.
+fn is_from(octets: &[u8], address: Option<Address>) -> bool {
+    match (octets, address) {
         ([_, _, _, _, _, _, a, b, c, d, e, f, ..], Some(address)) => {
             [*a, *b, *c, *d, *e, *f] == address
         }

@@ -2,10 +2,11 @@
 ghost use Rattle.std.specs.Prelude.{◌<◌};
 
 use crate::arriving::{Arrival, Why};
+use crate::shown::Address;
 use crate::text::write_text;
 use anyhow::{Result, bail};
 use em_frames::{LEAST_FRAME, is_unpadded, write_arrival};
-use em_pcap::{Capture, CaptureError, Packet};
+use em_pcap::{Capture, Packet};
 use std::alloc::Global;
 use std::io::Write;
 
@@ -118,23 +119,15 @@ impl<'a> Frames<'a> {
     }
 }
 
-/// What a capture has.
-#[derive(Clone, Copy, PartialEq, Eq, Debug)]
-pub enum Kind {
-    Frames,
-    /// Packets that Linux cooked, which were made frames: offsets are no more those of its file.
-    Cooked,
-}
-
-/// The frames of the capture of this name, each of which can arrive.
+/// The frames of the capture of this name, each of which can arrive; `own` is the address of who made it.
 pub fn packets_of<'a>(
     alloc: Global,
     name: &str,
     octets: &'a [u8],
-    kind: Kind,
+    own: Address,
 ) -> Result<Vec<Packet<'a>>> {
     let mut packets = Vec::new(alloc);
-    for given in Capture::new(alloc, octets) {
+    for given in Capture::new(alloc, octets, own) {
         match given {
             Ok(packet) => {
                 let len = len_of(&packet);
@@ -144,9 +137,6 @@ pub fn packets_of<'a>(
                     );
                 }
                 packets.push(packet)?;
-            }
-            Err(CaptureError::Fault(fault)) if kind == Kind::Cooked => {
-                bail!("{name}: {}", fault.kind)
             }
             Err(error) => bail!("{name}: {error}"),
         }
@@ -166,7 +156,7 @@ fn write_line<W: Write>(out: &mut W, arrival: &Arrival<'_>, len: u32) -> Result<
     if write_arrival(out, packet).is_err() {
         bail!("the script cannot be written");
     }
-    if !is_unpadded(packet) && packet.octets.len() < len as usize {
+    if !is_unpadded(packet) && packet.captured() < len as usize {
         write!(out, " {len}")?;
     }
     if let Why::Time(moment) | Why::Later(moment) = arrival.why {

@@ -28,7 +28,7 @@ mod words;
 use crate::arriving::{Arrivals, Seen, arrivals_in};
 use crate::done::Done;
 use crate::faults::{is_gzip, open_fault, packed, read_fault};
-use crate::frames::{Frames, Kind, packets_of};
+use crate::frames::{Frames, packets_of};
 use crate::head::Head;
 use crate::shown::Address;
 use crate::survey::Survey;
@@ -38,7 +38,6 @@ use crate::words::{WordsRefused, parse, wanted};
 use anyhow::{Context, Result, bail};
 use clap::error::ErrorKind;
 use clap::{ArgMatches, Error};
-use em_cooked::uncooked;
 use std::env;
 use std::fs::File;
 use std::io::{self, BufRead, BufReader, BufWriter, Read, Write};
@@ -172,14 +171,6 @@ fn capture_of<R: Files + AllocGlobal>(rt: &R, name: &str) -> Result<Vec<u8>> {
     Ok(octets)
 }
 
-/// A capture of frames: of Linux's cooked packets the frames that they were, where the adapter has this address.
-fn frames_of<R: AllocGlobal>(rt: &R, octets: Vec<u8>, own: [u8; 6]) -> Result<(Vec<u8>, Kind)> {
-    match uncooked(rt.alloc(), octets.as_slice(), own)? {
-        Some(frames) => Ok((frames, Kind::Cooked)),
-        None => Ok((octets, Kind::Frames)),
-    }
-}
-
 /// Reads the capture and the whole log, finds where the frames arrive, and turns the log into a script.
 fn with_capture<R: Files + Print + Eprint + AllocGlobal, B: BufRead>(
     rt: &R,
@@ -195,8 +186,7 @@ fn with_capture<R: Files + Print + Eprint + AllocGlobal, B: BufRead>(
     let survey = Survey::new(rt.alloc(), wanted.log(), log.as_slice())?;
     let address = wanted.address.or(survey.address());
     let own = address.unwrap_or(USUAL_ADDRESS);
-    let (octets, kind) = frames_of(rt, octets, own)?;
-    let packets = packets_of(rt.alloc(), name, octets.as_slice(), kind)?;
+    let packets = packets_of(rt.alloc(), name, octets.as_slice(), own)?;
     let Arrivals { arrivals, seen } = arrivals_in(
         rt.alloc(),
         &survey,

@@ -17,14 +17,14 @@ returns-in_err-write_whole g c =
           WroteFront-part behind wrote-0 refl c.in_err-write_whole.ensures.writes);
     }
 
-pub returns-in_err-write_octets : goal.returns-in_err-write_octets
-returns-in_err-write_octets g c =
+pub returns-in_err-write_frame : goal.returns-in_err-write_frame
+returns-in_err-write_frame g c =
     let frame = frame_of c.args.packet.now in
     let wrote-0 = WroteFront-none (g.W.Write.contents c.args.writer.now) (arrival_of frame) in
     let wrote-1 = WroteFront-more (codes "arrive ") wrote-0 refl c.in_ok-write_whole.ensures.writes in
     record {
-      writes = MatchResult-from_err _ _ _ c.from_residual-in_err-write_octets.ensures.0 (λ _.
-          WroteFront-part (padding_text (is_unpadded frame)) wrote-1 refl c.in_err-write_octets.ensures.writes);
+      writes = MatchResult-from_err _ _ _ c.from_residual-in_err-write_frame.ensures.0 (λ _.
+          WroteFront-part (padding_text (is_unpadded frame)) wrote-1 refl c.in_err-write_frame.ensures.writes);
     }
 
 pub returns : goal.returns
@@ -32,7 +32,7 @@ returns g c =
     let frame = frame_of c.args.packet.now in
     let wrote-0 = WroteFront-none (g.W.Write.contents c.args.writer.now) (arrival_of frame) in
     let wrote-1 = WroteFront-more (codes "arrive ") wrote-0 refl c.in_ok-write_whole.ensures.writes in
-    let wrote-2 = WroteFront-more (hex_text frame.octets) wrote-1 refl c.in_ok-write_octets.ensures.writes in
+    let wrote-2 = WroteFront-more (hex_text frame.octets) wrote-1 refl c.in_ok-write_frame.ensures.writes in
     record {
       writes = Writes-more _ _ _ _ wrote-2.front (padding_text (is_unpadded frame)) _ wrote-2.written
           (rw c.is_unpadded.ensures at c.write_padding.ensures.writes) wrote-2.whole;

@@ -1,6 +1,7 @@
 use Rattle.std.proofs.Common.{◌≡◌, ◌+◌, ◌-◌, ◌++◌, ◌∷◌, [], ℕ, List, length, drop, refl, sym, ap, ◌∙◌, arith}
 use Rattle.std.proofs.lemmas.Grind.{common_steps}
 use Rattle.em_pcap.specs.declared.form.Step.TheVariants.{Ends, Stops, Gives, Opens, Adds, Skips}
+use Rattle.em_pcap.specs.Frame.{header_octets}
 use Rattle.em_pcap.specs.Reading.{and_then, reading_from}
 use Rattle.em_pcap.proofs.ReadingLaws.{done}
 use Rattle.em_pcap.proofs.CaptureLaws.{left_here, moved, packet_in, adds_here, adds_moved, calls_there, calls_fewer}
@@ -35,7 +36,8 @@ returns-in-Gives-clause-next c =
     let arm = c.in-Gives.ensures in
     let rest = moved s.form s.interfaces.items s.interfaces.items s.offset found.len s.file.now refl in
     sym c.loop-self.invariant.left ∙ left_here s _ (Gives found) c.as_slice.ensures.value arm.step arm.within
-    ∙ ap (λ (o : List ℕ). and_then (record { octets = o; original = found.original; time = found.time })
+    ∙ ap (λ (o : List ℕ). and_then
+    (record { octets = header_octets found.header ++ o; original = found.original; time = found.time })
     (reading_from s.form s.interfaces.items 0 (s.offset + found.len) (drop found.len (drop s.offset s.file.now))))
     (sym (packet_in found.at found.captured s.offset s.file.now))
     ∙ ap (and_then _) (sym rest)

@@ -1,38 +1,15 @@
 -- Linux's cooked packets, which a capture of all interfaces has in the place of frames, and the Ethernet frames that
 -- they were. The fields of their headers have the highest octet first.
-use Rattle.std.specs.Prelude.{ℕ, zero, suc, ◌+◌, ◌-◌, ◌/◌, ◌%◌, ◌==◌, ◌&&◌, ◌||◌, nat_lt, nat_le, Bool, if◌then◌else◌}
+use Rattle.std.specs.Prelude.{ℕ, ◌+◌, ◌-◌, ◌/◌, ◌%◌, ◌==◌, ◌&&◌, ◌||◌, nat_lt, nat_le, if◌then◌else◌}
 use Rattle.std.specs.Prelude.{List, [], ◌∷◌, ◌++◌, length, take, drop, slice_index, Option, Some, None, option_map}
-use Rattle.em_cooked.specs.declared.order.Order.{Order}
-use Rattle.em_cooked.specs.declared.order.Order.TheVariants.{Little, Big}
-use Rattle.em_cooked.specs.declared.cooked.Cooking.{Cooking}
-use Rattle.em_cooked.specs.declared.cooked.Cooking.TheVariants.{Sll, Sll2}
-use Rattle.em_cooked.specs.declared.cooked.Cooked.{Cooked}
-use Rattle.em_cooked.specs.Fields.{u16, u32, to_u32}
-
--- ---- a classic file: magic_number and network in its header, incl_len and orig_len in that of a record
-
-abbrev pub magic_number : Order → List ℕ → ℕ
-magic_number order file = u32 order 0 file
-
-abbrev pub network : Order → List ℕ → ℕ
-network order file = u32 order 20 file
-
-abbrev pub incl_len : Order → List ℕ → ℕ
-incl_len order octets = u32 order 8 octets
-
-abbrev pub orig_len : Order → List ℕ → ℕ
-orig_len order octets = u32 order 12 octets
-
--- its times are in microseconds or in nanoseconds
-abbrev pub is_magic : ℕ → Bool
-is_magic number = number == 0xA1B2C3D4 || number == 0xA1B23C4D
-
--- in which order it was written
-abbrev pub order_of : List ℕ → Option Order
-order_of file =
-    if is_magic (magic_number Little file) then Some Little
-    else if is_magic (magic_number Big file) then Some Big
-    else None
+use Rattle.em_pcap.specs.declared.order.Order.TheVariants.{Big}
+use Rattle.em_pcap.specs.declared.cooked.Cooking.{Cooking}
+use Rattle.em_pcap.specs.declared.cooked.Cooking.TheVariants.{Sll, Sll2}
+use Rattle.em_pcap.specs.declared.cooked.Cooked.{Cooked}
+use Rattle.em_pcap.specs.declared.form.Found.{Found}
+use Rattle.em_pcap.specs.declared.form.Step.{Step}
+use Rattle.em_pcap.specs.declared.form.Step.TheVariants.{Gives, Skips}
+use Rattle.em_pcap.specs.Fields.{u16}
 
 -- ---- the headers
 
@@ -119,50 +96,22 @@ uncooked_header cooking own packet original =
     then header_of own (cooked_in cooking packet) (drop (header_len cooking) packet) (original - header_len cooking)
     else None
 
--- ---- a classic file of them
+-- ---- the frame
 
--- a record's ts_sec and ts_usec stay; the header that it has now in the place of its own has 14 octets
-abbrev pub with_header : Order → Cooking → List ℕ → Option (List ℕ) → List ℕ
-with_header order cooking octets None = []
-with_header order cooking octets (Some header) =
-    let behind = drop (16 + header_len cooking) octets in
-    take 8 octets ++ (to_u32 order (14 + length behind)
-    ++ (to_u32 order (14 + (orig_len order octets - header_len cooking)) ++ (header ++ behind)))
+-- what was no frame is passed over
+abbrev pub with_header : Cooking → Found → Option (List ℕ) → Step
+with_header cooking found None = Skips found.len
+with_header cooking found (Some header) = Gives (record {
+  len = found.len;
+  at = found.at + header_len cooking;
+  captured = found.captured - header_len cooking;
+  original = 14 + (found.original - header_len cooking);
+  time = found.time;
+  header = Some header;
+})
 
--- a record of the frame that a packet was, or nothing
-abbrev pub uncooked_record : Order → Cooking → List ℕ → List ℕ → List ℕ
-uncooked_record order cooking own octets =
-    with_header order cooking octets (uncooked_header cooking own (drop 16 octets) (orig_len order octets))
-
--- how many octets the record here has, if it is there whole
-abbrev pub record_len : Order → List ℕ → Option ℕ
-record_len order octets =
-    if nat_le 16 (length octets) && nat_le (16 + incl_len order octets) (length octets)
-    then Some (16 + incl_len order octets)
-    else None
-
--- the record here and those behind it; where none is whole, all stays as it is
-abbrev pub with_record : (List ℕ → List ℕ) → (ℕ → List ℕ) → List ℕ → Option ℕ → List ℕ
-with_record one rest octets None = octets
-with_record one rest octets (Some len) = one (take len octets) ++ rest (len - 1)
-
--- in these octets, of which the first `inside` belong to a record before
-unfoldable pub uncooked_records : Order → Cooking → List ℕ → ℕ → List ℕ → List ℕ
-uncooked_records order cooking own inside [] = []
-uncooked_records order cooking own (suc inside) (octet ∷ octets) = uncooked_records order cooking own inside octets
-uncooked_records order cooking own zero (octet ∷ octets) =
-    with_record (uncooked_record order cooking own) (λ inside. uncooked_records order cooking own inside octets)
-    (octet ∷ octets) (record_len order (octet ∷ octets))
-
--- the file's header with the link type of Ethernet, and the records
-unfoldable pub uncooked_file : Order → List ℕ → List ℕ → Cooking → List ℕ
-uncooked_file order own file cooking =
-    take 20 file ++ (to_u32 order 1 ++ uncooked_records order cooking own 0 (drop 24 file))
-
-abbrev pub uncooked_by : List ℕ → List ℕ → Option Order → Option (List ℕ)
-uncooked_by own file None = None
-uncooked_by own file (Some order) = option_map (uncooked_file order own file) (cooking_of (network order file))
-
--- a capture of cooked packets as one of Ethernet frames
-abbrev pub uncooked : List ℕ → List ℕ → Option (List ℕ)
-uncooked own file = if nat_le 24 (length file) then uncooked_by own file (order_of file) else None
+-- a packet in these octets as the frame that it was
+abbrev pub uncooked_step : Cooking → List ℕ → List ℕ → Found → Step
+uncooked_step cooking own octets found =
+    with_header cooking found
+    (uncooked_header cooking own (take found.captured (drop found.at octets)) found.original)
