@@ -12,6 +12,7 @@ HEX = re.compile(rb"0[xX]([0-9a-fA-F]{1,16})")
 DECIMAL = re.compile(rb"[0-9]{1,7}")
 EVENT = re.compile(rb"(?:.*:)?memory_region_ops_(read|write)", re.DOTALL)
 PRINTED = re.compile(rb"(?:.*[^a-zA-Z])?(read|write)", re.DOTALL | re.IGNORECASE)
+STAMP = re.compile(rb"\[?([0-9]+\.[0-9]{6})[\]:]?")
 STORED = re.compile(rb"(?:.*[^a-zA-Z])?mem", re.DOTALL | re.IGNORECASE)
 OCTETS = re.compile(rb"(?:[0-9a-fA-F]{2})+")
 NOTHING, ELSEWHERE, FAULT = "nothing", "elsewhere", "fault"
@@ -229,8 +230,21 @@ def time_of(form, line):
         text = found[1]
     elif form == "mmiotrace":
         text = words[2]
+    elif form == "plain":
+        text = stamp(words)
     found = text and re.fullmatch(rb"([0-9]*)\.([0-9]{6})", text)
     return (int(found[1]) * 10**6 + int(found[2])) * 1000 if found and found[1] else None
+
+
+def stamp(words):
+    """The first word that is a time, before the one that says what the line is of."""
+    for word, *rest in (words[at:] for at in range(len(words))):
+        if found := STAMP.fullmatch(word):
+            return found[1]
+        is_memory = STORED.fullmatch(word) and rest and hexadecimal(rest[0]) is not None
+        if is_memory or PRINTED.fullmatch(word) and begins_hex(rest):
+            return None
+    return None
 
 
 def clock_of(places, own):

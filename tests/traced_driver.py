@@ -34,6 +34,7 @@ def try_traced_driver(tally: Tally, em_trace: str, em_debug: Path) -> None:
         ran = run([em_trace, "--frames", capture, log])
         tally.ended("the log of traced", ran, 0, None, None)
         script = ran.stdout
+        tally.check("the times of traced", times_faults(log.read_text(), script.decode()))
         (Path(folder) / "traced.em").write_bytes(script)
         ran = run([em_debug, "--compare", Path(folder) / "traced.em"])
         is_so = re.fullmatch(rb"agreed 3, known 12, differed 0, bad 0, warnings \d+\n", ran.stdout)
@@ -41,9 +42,19 @@ def try_traced_driver(tally: Tally, em_trace: str, em_debug: Path) -> None:
         tally.check("what the script of traced does", played(em_debug, script.decode()))
 
 
+def times_faults(log: str, script: str) -> list[str]:
+    """Each line has its time, a microsecond after the one before it, and each access has it in the script."""
+    times = re.findall(r"(?m)^\[ {4}(1\.\d{6})\] (read|write|mem) ", log)
+    wanted = [time for time, word in times if word != "mem"]
+    faults = [] if [time for time, _ in times] == [f"1.{at:06}" for at in range(len(log.splitlines()))] else ["its times"]
+    told = re.findall(r"(?m)^[rw] .* # (1\.\d{6})$", script)
+    return faults + ([] if told and set(told) <= set(wanted) and script.count("\nw ") - 1 == sum(
+        word == "write" for _, word in times) else [f"the script has {told[:3]}, and not {wanted[:3]}"])
+
+
 def log_faults(log: str) -> list[str]:
     """A packet stands in the log as it was sent, in lines of at most so many octets."""
-    octets = re.findall(r"(?m)^mem 0x[0-9A-F]+ ([0-9A-F]+)$", log)
+    octets = re.findall(r"(?m)^\[ {4}1\.\d{6}\] mem 0x[0-9A-F]+ ([0-9A-F]+)$", log)
     longest = max(len(line) // 2 for line in octets)
     packet = SENT[1][: 2 * MOST_IN_LINE], SENT[1][2 * MOST_IN_LINE :]
     is_there = packet in zip(octets, octets[1:])

@@ -8,6 +8,12 @@
    packets that are answered, and takes the answers, of which the other end of the wire writes a capture. */
 #include "limit.h"
 #include "bunjelav.h"
+
+#include <stdint.h>
+
+/* where a real driver asks its clock; here a microsecond is between two lines */
+static uint64_t now = 1000000;
+#define TRACE_TIME (now++)
 #include "trace.h"
 
 #include <stdio.h>

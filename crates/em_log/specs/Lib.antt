@@ -4,5 +4,6 @@ pub mod Told
 pub mod Qemu
 pub mod Mmiotrace
 pub mod Plain
+pub mod Stamp
 pub mod Likeness
 pub mod Log

@@ -12,9 +12,11 @@ mod mmiotrace;
 mod number;
 mod plain;
 mod qemu;
+mod stamp;
 mod told;
 
 pub use likeness::looks_like_access;
 pub use log::{Entry, Form, Log, RegisterAccess};
 pub use plain::{MemoryWrite, memory_written};
+pub use stamp::printed_stamp;
 pub use told::{Way, Width};

@@ -16,7 +16,7 @@ const OCTETS: u64 = 4;
 
 /// What a driver prints of.
 #[derive(Clone, Copy)]
-enum Said {
+pub(crate) enum Said {
     Access(Way),
     /// Octets that it wrote into guest memory.
     Memory,
@@ -72,7 +72,7 @@ fn said_in(line: &[u8]) -> Option<(Said, Words<'_>)>
 }
 
 /// What a word says that a line is of, where the words behind it go on so.
-fn said_by(word: &[u8], words: Words<'_>) -> Option<Said>
+pub(crate) fn said_by(word: &[u8], words: Words<'_>) -> Option<Said>
     ensures { result ≡ said_by word.now (words_of words.entry.0.now) }
 {
     if is_word(word, b"read") && is_hex_next(words) {

@@ -1,6 +1,6 @@
 //! Times of a log and of a capture.
 
-use em_log::Form;
+use em_log::{Form, printed_stamp};
 use em_text::Words;
 use std::fmt;
 
@@ -39,8 +39,8 @@ impl fmt::Display for Moment {
 }
 
 /// When a line was logged that is an access, where the log says it: QEMU as `PID@SECONDS.MICROSECONDS:` before the
-/// event, and mmiotrace behind the access's width. (simpletrace.py prints how long an event came behind the one before it, and
-/// what a driver prints has no time that is known.)
+/// event, mmiotrace behind the access's width, and a driver somewhere before the access. (simpletrace.py prints how long an
+/// event came behind the one before it.)
 pub fn moment_of(form: Option<Form>, line: &[u8]) -> Option<Moment> {
     let mut words = Words(line);
     let text = match form? {
@@ -50,7 +50,7 @@ pub fn moment_of(form: Option<Form>, line: &[u8]) -> Option<Moment> {
             let _ = words.next();
             words.next()?
         }
-        Form::Plain => return None,
+        Form::Plain => printed_stamp(line)?,
     };
     moment_in(text)
 }
