@@ -6,8 +6,10 @@ pub mod Kind
 pub mod Bits
 pub mod Watch
 pub mod Until
+pub mod Foreign
 pub mod Command
 pub mod Near
+pub mod Short
 pub mod Fault
 pub mod Kept
 pub mod BenchLine

@@ -5,10 +5,10 @@ use Rattle.em_prompt.specs.declared.command.Command.{Command}
 use Rattle.em_prompt.specs.declared.wrong.Wrong.{Wrong as Lent}
 use Rattle.em_prompt.specs.declared.wrong.Wrong.TheVariants as lent
 use Rattle.em_prompt.specs.declared.typed.Typed.{Typed as LentTyped}
-use Rattle.em_prompt.specs.Command.{command_of}
 use Rattle.em_prompt.specs.Fault as faults
 use Rattle.em_prompt.specs.Fault.{Fault}
 use Rattle.em_prompt.specs.Says.{says}
+use Rattle.em_prompt.specs.Short.{meant}
 use Rattle.em_prompt.specs.Told.{told, first_word, behind_first}
 use Rattle.em_prompt.specs.Typed as typed
 use Rattle.em_prompt.specs.Typed.{Typed, silent}
@@ -44,7 +44,7 @@ found_line profile name (Some command) rest = command_line profile command rest
 -- a line with this first word, and what stands behind it
 abbrev pub named_line : Profile → List ℕ → List ℕ → Result Typed Wrong
 named_line profile [] rest = Ok silent
-named_line profile (octet ∷ octets) rest = found_line profile (octet ∷ octets) (command_of (octet ∷ octets)) rest
+named_line profile (octet ∷ octets) rest = found_line profile (octet ∷ octets) (meant (octet ∷ octets)) rest
 
 -- what a line says, in which registers are those of a profile
 unfoldable pub prompted : Profile → List ℕ → Result Typed Wrong

@@ -26,11 +26,11 @@ use Rattle.em_prompt.specs.declared.fault.Fault.{Fault as LentFault}
 use Rattle.em_prompt.specs.declared.kept.Kept.{Kept as LentKept}
 use Rattle.em_prompt.specs.declared.value.Offset.{Offset as LentOffset}
 use Rattle.em_prompt.specs.Bits.{bits_of}
-use Rattle.em_prompt.specs.Command.{command_of}
 use Rattle.em_prompt.specs.Fault.{Fault, no, odd_digits, no_register, no_bit, no_command, plain}
 use Rattle.em_prompt.specs.Kept.{kept_text}
 use Rattle.em_prompt.specs.Number.{least, most}
 use Rattle.em_prompt.specs.Register.{known, named}
+use Rattle.em_prompt.specs.Short.{meant}
 use Rattle.em_prompt.specs.Watch as watch
 use Rattle.em_prompt.specs.Watch.{Watch, watched}
 use Rattle.em_prompt.specs.Word.{data_digits, hex_address_in, hex_number_in}
@@ -173,9 +173,9 @@ last_line_in line word = or_fault (no LastLine) (between line 9_999_999 (decimal
 abbrev pub watch_in : Profile → List ℕ → Result Watch Fault
 watch_in profile word = or_fault (no_register word) (watched profile word)
 
--- the name of a command
+-- the name of a command, or its first letters
 abbrev pub command_in : List ℕ → Result Command Fault
-command_in word = or_fault (no_command word) (command_of word)
+command_in word = or_fault (no_command word) (meant word)
 
 -- up or down
 abbrev pub way_in : List ℕ → Result (List ℕ) Fault

@@ -4,8 +4,10 @@ use Rattle.em_regs.specs.declared.reg.Reg.{Reg}
 use Rattle.em_regs.specs.declared.reg.Reg.TheVariants.{Ctrl}
 use Rattle.em_names.specs.Names as names
 use Rattle.em_prompt.specs.declared.command.Command.{Command}
+use Rattle.em_prompt.specs.declared.foreign.Foreign.{Foreign}
 use Rattle.em_prompt.specs.Command.{name_of}
 use Rattle.em_prompt.specs.Fault.{Fault, missing, too_many, no, odd_digits, no_register, no_bit, no_command}
+use Rattle.em_prompt.specs.Foreign.{foreign_called, here_of}
 use Rattle.em_prompt.specs.Kind.{called, rule}
 use Rattle.em_prompt.specs.Near.{near_of}
 use Rattle.em_prompt.specs.Prompt.{Wrong, unknown, behind}
@@ -23,14 +25,22 @@ near_text (Some regs) =
 abbrev pub no_register_text : Option (List Reg) → List ℕ → List ℕ
 no_register_text near word = (codes "no register " ++ word) ++ near_text near
 
+-- something else is to be typed
+abbrev pub other_text : List ℕ → List ℕ → List ℕ → List ℕ
+other_text word before other = codes "no command " ++ (word ++ (before ++ (other ++ codes "; help says which there are")))
+
 -- where no command may be meant, and where one may be
 abbrev pub none_near_text : List ℕ → Option Command → List ℕ
 none_near_text word None = codes "no command " ++ (word ++ codes ": help says which there are")
-none_near_text word (Some near) =
-    codes "no command " ++ (word ++ (codes ", near: " ++ (name_of near ++ codes "; help says which there are")))
+none_near_text word (Some near) = other_text word (codes ", near: ") (name_of near)
+
+-- of a word of gdb's what does the same here
+abbrev pub or_near_text : List ℕ → Option Foreign → List ℕ
+or_near_text word (Some foreign) = other_text word (codes ", here: ") (here_of foreign)
+or_near_text word None = none_near_text word (near_of word)
 
 abbrev pub no_command_text : List ℕ → List ℕ
-no_command_text word = none_near_text word (near_of word)
+no_command_text word = or_near_text word (foreign_called word)
 
 -- a text behind a command's name, and its end
 abbrev pub at_text : Command → List ℕ → List ℕ → List ℕ

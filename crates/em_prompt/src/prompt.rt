@@ -30,7 +30,7 @@ fn named_line<'a>(profile: Profile, name: &'a [u8], rest: &'a [u8]) -> Result<Ty
     if name.is_empty() {
         return Ok(Typed::Silent);
     }
-    match Command::of(name) {
+    match Command::meant(name) {
         Some(command) => command_line(profile, command, rest),
         None => Err(Wrong::Unknown(name)),
     }

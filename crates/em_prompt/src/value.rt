@@ -189,7 +189,7 @@ pub(crate) fn watch_in(profile: Profile, word: &[u8]) -> Result<Watch, Fault<'_>
 pub(crate) fn command_in(word: &[u8]) -> Result<Command, Fault<'_>>
     ensures { read_so result ≡ command_in word.now }
 {
-    match Command::of(word) {
+    match Command::meant(word) {
         Some(command) => Ok(command),
         None => Err(Fault::NoCommand(word)),
     }

@@ -5,10 +5,12 @@ ghost use Rattle.em_names.specs.Names.{name_of};
 ghost use Rattle.em_prompt.specs.Command.{name_of as name_of_command};
 ghost use Rattle.em_prompt.specs.Fault.{plain as plain_fault};
 ghost use Rattle.em_prompt.specs.Prompt.{plain_wrong};
-ghost use Rattle.em_prompt.specs.WrongText.{wrong_text, fault_text, at_text, near_text, no_command_text, none_near_text, no_register_text};
+ghost use Rattle.em_prompt.specs.WrongText.{wrong_text, fault_text, at_text, near_text, no_command_text, none_near_text};
+ghost use Rattle.em_prompt.specs.WrongText.{no_register_text, other_text};
 
 use crate::command::Command;
 use crate::fault::Fault;
+use crate::foreign::Foreign;
 use crate::near::near_of;
 use em_names::name;
 use em_regs::Reg;
@@ -137,7 +139,10 @@ fn write_at<'a, W: Write>(
 fn write_no_command<W: Write>(writer: &mut W, word: &[u8]) -> Result<(), WriteFailed>
     ensures writes { Writes (W.contents writer.old) (W.contents writer.new) result (no_command_text word.now) }
 {
-    write_none_near(writer, word, near_of(word))
+    match Foreign::of(word) {
+        Some(foreign) => write_other(writer, word, b", here: ", foreign.here().as_bytes()),
+        None => write_none_near(writer, word, near_of(word)),
+    }
 }
 
 /// Writes that a word names no command, and which may be meant, if one may.
@@ -153,25 +158,27 @@ fn write_none_near<W: Write>(
             writer,
             &[b"no command ", word, b": help says which there are"],
         ),
-        Some(near) => write_one_near(writer, word, near.name().as_bytes()),
+        Some(near) => write_other(writer, word, b", near: ", near.name().as_bytes()),
     }
 }
 
-fn write_one_near<'a, W: Write>(
+/// Writes that a word names no command, and what else is to be typed.
+fn write_other<'a, W: Write>(
     writer: &mut W,
     word: &'a [u8],
-    near: &'a [u8],
+    before: &'a [u8],
+    other: &'a [u8],
 ) -> Result<(), WriteFailed>
     ensures writes { Writes (W.contents writer.old) (W.contents writer.new) result
-        (codes "no command " ++ (word.now ++ (codes ", near: " ++ (near.now ++ codes "; help says which there are")))) }
+        (other_text word.now before.now other.now) }
 {
     write_pieces(
         writer,
         &[
             b"no command ",
             word,
-            b", near: ",
-            near,
+            before,
+            other,
             b"; help says which there are",
         ],
     )
