@@ -189,6 +189,7 @@ fn with_options<R: Files + Input + Print + Eprint + AllocGlobal>(
                 debugger,
                 disk: Host { rt },
                 marks: None,
+                last: None,
             };
             let ended = with_capture(rt, &mut served, script, words, prompt);
             let score = served.debugger.score();
@@ -329,6 +330,9 @@ fn with_session<R: Files + Input + Print + Eprint + AllocGlobal>(
         }
         None => {
             let reader = BufReader::new(rt.alloc(), rt.reader())?;
+            if !prompt.is_empty() {
+                served.last = Some(Vec::new(rt.alloc()));
+            }
             let source = Source {
                 name: "standard input",
                 prompt,
