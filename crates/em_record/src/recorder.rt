@@ -5,11 +5,10 @@ use crate::fault::RecordFault;
 use crate::held::{Held, Told, has_stored, write_one};
 use crate::line::{difference, kind_of, played, takes_back, time_of};
 use em_journal::{Settings, SettingsRefusal};
+use em_json::{write_number, write_string, write_strings};
 use em_line::{Line, Parts, parts_of};
 use em_named::Did;
-use em_recording::{
-    newest_frame, record_of, write_number, write_settings, write_start, write_string,
-};
+use em_recording::{newest_frame, record_of, write_settings, write_start};
 use em_regs::Profile;
 use em_script::{BenchFault, Outcome};
 use em_tape::Tape;
@@ -42,23 +41,6 @@ pub struct Recorder {
     /// The newest lines, from one on whose events are told by steps back; and how many events they performed.
     held: Vec<Held>,
     held_events: usize,
-}
-
-/// Writes the lines of a text as a list of strings.
-fn write_strings<W: Write>(writer: &mut W, text: &[u8]) -> Result<(), WriteFailed> {
-    let mut before: &[u8] = b"[";
-    let mut rest = text;
-    while !rest.is_empty() {
-        let (line, behind) = next_line(rest);
-        write_whole(writer, before)?;
-        write_string(writer, line)?;
-        before = b",";
-        rest = behind;
-    }
-    if text.is_empty() {
-        write_whole(writer, b"[")?;
-    }
-    write_whole(writer, b"]")
 }
 
 /// The first line of a text.

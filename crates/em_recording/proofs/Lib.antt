@@ -7,8 +7,7 @@
 -- The frames that were sent and the gathered octets, step by step back (`go_back`, `until`, `frame_of`):
 --   1  WireLaws; 2 GatheredLaws
 -- Records rebuild each state (`records_rebuild`, `newest_records_rebuild`): RunLaws on WireLaws: call by call
--- The JSON is exact: StartLaws (`write_start`): the registers of the start; StringLaws (`write_lossy`): octets that may
---   be any
+-- The JSON is exact: StartLaws (`write_start`): the registers of the start
 pub mod ThingLaws
 pub mod RegisterLaws
 pub mod OctetLaws
@@ -17,4 +16,3 @@ pub mod GatheredLaws
 pub mod RecordLaws
 pub mod RunLaws
 pub mod StartLaws
-pub mod StringLaws

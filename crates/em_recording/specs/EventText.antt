@@ -5,7 +5,7 @@ use Rattle.em_names.specs.Names.{name_of}
 use Rattle.em_trail.specs.declared.note.Note.{Note}
 use Rattle.em_watch.specs.declared.octets.MemoryChange.{MemoryChange}
 use Rattle.em_recording.specs.Rebuild.{sent_of}
-use Rattle.em_recording.specs.Text.{flag_text, number_text, numbers_text, octets_text}
+use Rattle.em_json.specs.Text.{flag_text, number_text, numbers_text, octets_text}
 use Rattle.em_recording.specs.declared.recorded.GatheredStep.{GatheredStep}
 use Rattle.em_recording.specs.declared.recorded.Recorded.{Recorded}
 use Rattle.em_recording.specs.declared.recorded.RegisterStep.{RegisterStep}

@@ -8,7 +8,5 @@ pub mod Stored
 pub mod Rebuild
 pub mod Run
 pub mod Effects
-pub mod Text
-pub mod Strings
 pub mod EventText
 pub mod StartText

@@ -10,7 +10,7 @@ use Rattle.em_regs.specs.declared.reg.Reg.TheVariants as named
 use Rattle.em_step.specs.State.{State}
 use Rattle.em_step.specs.Access.{gives}
 use Rattle.em_journal.specs.declared.settings.Settings.{Settings}
-use Rattle.em_recording.specs.Text.{number_text, octets_text}
+use Rattle.em_json.specs.Text.{number_text, octets_text}
 
 -- behind the address: the profile, where it is not the first, and the end
 abbrev pub settings_end : Profile → List ℕ

@@ -7,9 +7,9 @@ ghost use Rattle.em_recording.specs.EventText.{change_text, event_text, frame_te
 ghost use Rattle.em_recording.specs.EventText.{register_text, way_text, ways_text};
 ghost use Rattle.em_recording.specs.Rebuild.{sent_of};
 
-use crate::numbers::{write_flag, write_hex, write_number, write_numbers};
 use crate::recorded::{GatheredStep, OctetStep, Recorded, RegisterStep, Step};
 use crate::was::write_was;
+use em_json::{write_flag, write_hex, write_number, write_numbers};
 use em_names::write_name;
 use em_text::{WriteFailed, write_whole};
 use em_trail::Note;

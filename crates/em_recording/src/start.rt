@@ -3,8 +3,8 @@ ghost use Rattle.std.specs.Prelude.{◌≡◌, ◌<◌};
 ghost use Rattle.em_text.specs.Writer.{Writes};
 ghost use Rattle.em_recording.specs.StartText.{named_text, settings_end, settings_text, start_text, word_text};
 
-use crate::numbers::{write_hex, write_number};
 use em_journal::{Machine, Settings};
+use em_json::{write_hex, write_number};
 use em_names::write_name;
 use em_regs::{Profile, Reg, SPACE};
 use em_text::{WriteFailed, write_whole};

@@ -3,7 +3,7 @@ use Rattle.std.specs.Prelude.{codes}
 use Rattle.std.proofs.lemmas.Result.{MatchResult-from_err}
 use Rattle.em_text.proofs.WritingLemmas.{WroteFront-more, WroteFront-none, WroteFront-part, Writes-more}
 use Rattle.std.specs.Option.{option_map}
-use Rattle.em_recording.specs.Text.{number_text}
+use Rattle.em_json.specs.Text.{number_text}
 use Rattle.em_recording.specs.EventText.{change_text, event_text, frame_text, frames_text, gathered_text, list_text}
 use Rattle.em_recording.specs.EventText.{register_text, ways_text}
 use Rattle.em_recording.specs.Rebuild.{sent_of}

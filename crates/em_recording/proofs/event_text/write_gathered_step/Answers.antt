@@ -3,7 +3,7 @@ use Rattle.std.specs.Prelude.{codes}
 use Rattle.std.proofs.lemmas.Result.{MatchResult-from_err}
 use Rattle.em_text.proofs.WritingLemmas.{WroteFront-more, WroteFront-none, WroteFront-part, Writes-more}
 use Rattle.std.specs.Prelude.{Some}
-use Rattle.em_recording.specs.Text.{number_text, octets_text}
+use Rattle.em_json.specs.Text.{number_text, octets_text}
 use Rattle.em_recording.specs.EventText.{gathered_text}
 use Rattle.em_recording.proofs.event_text.write_gathered_step.Goals as goal
 

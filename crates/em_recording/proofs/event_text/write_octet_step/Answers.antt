@@ -3,7 +3,7 @@ use Rattle.std.specs.Prelude.{codes}
 use Rattle.std.proofs.lemmas.Result.{MatchResult-from_err}
 use Rattle.em_text.proofs.WritingLemmas.{WroteFront-more, WroteFront-none, WroteFront-part, Writes-more}
 use Rattle.std.specs.Prelude.{take}
-use Rattle.em_recording.specs.Text.{number_text, octets_text}
+use Rattle.em_json.specs.Text.{number_text, octets_text}
 use Rattle.em_recording.specs.EventText.{change_text}
 use Rattle.em_recording.proofs.event_text.write_octet_step.Goals as goal
 

@@ -3,7 +3,7 @@ use Rattle.std.specs.Prelude.{codes}
 use Rattle.std.proofs.lemmas.Result.{MatchResult-from_err}
 use Rattle.em_text.proofs.WritingLemmas.{WroteFront-more, WroteFront-none, WroteFront-part, Writes-more}
 use Rattle.em_names.specs.Names.{name_of}
-use Rattle.em_recording.specs.Text.{numbers_text}
+use Rattle.em_json.specs.Text.{numbers_text}
 use Rattle.em_recording.specs.EventText.{register_text}
 use Rattle.em_recording.proofs.event_text.write_register.Goals as goal
 

@@ -3,7 +3,7 @@ use Rattle.std.specs.Prelude.{codes}
 use Rattle.std.proofs.lemmas.Result.{MatchResult-from_err}
 use Rattle.em_text.proofs.WritingLemmas.{WroteFront-more, WroteFront-none, WroteFront-part, Writes-more}
 use Rattle.std.specs.Prelude.{Some}
-use Rattle.em_recording.specs.Text.{flag_text}
+use Rattle.em_json.specs.Text.{flag_text}
 use Rattle.em_recording.specs.EventText.{way_text}
 use Rattle.em_recording.proofs.event_text.write_way.Goals as goal
 

@@ -2,7 +2,7 @@ use Rattle.std.proofs.Common.{◌++◌, refl}
 use Rattle.std.specs.Prelude.{codes}
 use Rattle.std.proofs.lemmas.Result.{MatchResult-from_err}
 use Rattle.em_text.proofs.WritingLemmas.{WroteFront-more, WroteFront-none, WroteFront-part, Writes-more}
-use Rattle.em_recording.specs.Text.{number_text, octets_text}
+use Rattle.em_json.specs.Text.{number_text, octets_text}
 use Rattle.em_recording.specs.StartText.{settings_end, settings_text}
 use Rattle.em_recording.proofs.start.write_settings.Goals as goal
 

@@ -3,7 +3,7 @@ use Rattle.std.specs.Prelude.{codes}
 use Rattle.std.proofs.lemmas.Result.{MatchResult-from_err}
 use Rattle.em_text.proofs.WritingLemmas.{WroteFront-more, WroteFront-none, WroteFront-part, Writes-more}
 use Rattle.em_names.specs.Names.{name_of}
-use Rattle.em_recording.specs.Text.{number_text}
+use Rattle.em_json.specs.Text.{number_text}
 use Rattle.em_recording.specs.StartText.{named_text}
 use Rattle.em_recording.proofs.start.write_value.Goals as goal
 

@@ -2,6 +2,7 @@
 use Rattle.std.specs.Prelude.{ℕ, ◌==◌, nat_lt, if◌then◌else◌, List, [], ◌∷◌, ◌++◌, codes, length}
 use Rattle.std.specs.List.{flat_map}
 use Rattle.std.specs.Str.Lossy.{replacement_bytes, utf8_lossy}
+use Rattle.em_text.specs.Lines.{lines_of}
 use Rattle.em_text.specs.Writer.{hex_text}
 
 -- an octet of a text: a quotation mark and a backslash behind a backslash, `<` and what lies below a space by a number
@@ -22,3 +23,16 @@ chunk_text valid invalid = escaped valid ++ (if length invalid == 0 then [] else
 -- a string: the text that `from_utf8_lossy` makes of octets, escaped, between quotation marks
 abbrev pub string_text : List ℕ → List ℕ
 string_text octets = codes "\"" ++ (escaped (utf8_lossy octets) ++ codes "\"")
+
+-- strings, each behind a comma
+abbrev pub joined_behind : List (List ℕ) → List ℕ
+joined_behind lines = flat_map (λ line. codes "," ++ string_text line) lines
+
+-- strings, with a comma between two
+abbrev pub joined : List (List ℕ) → List ℕ
+joined [] = []
+joined (line ∷ lines) = string_text line ++ joined_behind lines
+
+-- the lines of a text as a list of strings
+abbrev pub strings_text : List ℕ → List ℕ
+strings_text text = codes "[" ++ (joined (lines_of text) ++ codes "]")

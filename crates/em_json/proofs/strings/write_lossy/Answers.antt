@@ -5,9 +5,9 @@ use Rattle.std.specs.Io.KnownBytes.{Appends}
 use Rattle.std.specs.Str.Chunks.{utf8_chunks_rest}
 use Rattle.std.specs.Str.Lossy.{utf8_lossy}
 use Rattle.em_text.proofs.WritingLemmas.{Appends-more, WritesPart-front, WritesPart-more}
-use Rattle.em_recording.specs.Strings.{chunk_text, escaped, octet_text}
-use Rattle.em_recording.proofs.StringLaws.{escaped_front, escaped_run, lossy_all, lossy_front, run_of}
-use Rattle.em_recording.proofs.strings.write_lossy.Goals as goal
+use Rattle.em_json.specs.Strings.{chunk_text, escaped, octet_text}
+use Rattle.em_json.proofs.StringLaws.{escaped_front, escaped_run, lossy_all, lossy_front, run_of}
+use Rattle.em_json.proofs.strings.write_lossy.Goals as goal
 
 pub loop-chunk-preserved : goal.loop-chunk-preserved
 loop-chunk-preserved g c =

@@ -1,6 +1,6 @@
 //! Numbers, words and octets of JSON.
 ghost use Rattle.em_text.specs.Writer.{Writes};
-ghost use Rattle.em_recording.specs.Text.{flag_text, number_text, numbers_text, octets_text};
+ghost use Rattle.em_json.specs.Text.{flag_text, number_text, numbers_text, octets_text};
 
 use em_text::{WriteFailed, write_octets, write_pieces, write_whole};
 use itoa::Buffer;
@@ -15,7 +15,7 @@ pub fn write_number<W: Write>(writer: &mut W, before: &[u8], number: u64) -> Res
 }
 
 /// Writes two numbers behind a text, and the end of their list.
-pub(crate) fn write_numbers<W: Write>(
+pub fn write_numbers<W: Write>(
     writer: &mut W,
     before: &[u8],
     first: u64,
@@ -34,11 +34,7 @@ pub(crate) fn write_numbers<W: Write>(
 }
 
 /// Writes `true` or `false` behind a text.
-pub(crate) fn write_flag<W: Write>(
-    writer: &mut W,
-    before: &[u8],
-    flag: bool,
-) -> Result<(), WriteFailed>
+pub fn write_flag<W: Write>(writer: &mut W, before: &[u8], flag: bool) -> Result<(), WriteFailed>
     ensures writes { Writes (W.contents writer.old) (W.contents writer.new) result (flag_text before.now flag) }
 {
     let word: &[u8] = if flag { b"true" } else { b"false" };
@@ -46,11 +42,7 @@ pub(crate) fn write_flag<W: Write>(
 }
 
 /// Writes octets as a string of hexadecimal digits behind a text.
-pub(crate) fn write_hex<W: Write>(
-    writer: &mut W,
-    before: &[u8],
-    octets: &[u8],
-) -> Result<(), WriteFailed>
+pub fn write_hex<W: Write>(writer: &mut W, before: &[u8], octets: &[u8]) -> Result<(), WriteFailed>
     ensures writes { Writes (W.contents writer.old) (W.contents writer.new) result (octets_text before.now octets.now) }
 {
     write_pieces(writer, &[before, b"\""])?;

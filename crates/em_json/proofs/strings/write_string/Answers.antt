@@ -3,8 +3,8 @@ use Rattle.std.specs.Prelude.{codes}
 use Rattle.std.proofs.lemmas.Result.{MatchResult-from_err}
 use Rattle.em_text.proofs.WritingLemmas.{WroteFront-more, WroteFront-none, WroteFront-part, Writes-more}
 use Rattle.std.specs.Str.Lossy.{utf8_lossy}
-use Rattle.em_recording.specs.Strings.{escaped, string_text}
-use Rattle.em_recording.proofs.strings.write_string.Goals as goal
+use Rattle.em_json.specs.Strings.{escaped, string_text}
+use Rattle.em_json.proofs.strings.write_string.Goals as goal
 
 pub returns-in_err-write_whole : goal.returns-in_err-write_whole
 returns-in_err-write_whole g c =

@@ -1,10 +1,12 @@
 //! Strings of JSON, of octets that may be any.
+ghost use Rattle.std.specs.Prelude.{◌++◌, codes};
 ghost use Rattle.std.specs.Str.Chunks.{utf8_chunk_invalid, utf8_chunk_valid};
 ghost use Rattle.std.specs.Str.Lossy.{utf8_lossy};
+ghost use Rattle.em_text.specs.Lines.{lines_of};
 ghost use Rattle.em_text.specs.Writer.{Writes};
-ghost use Rattle.em_recording.specs.Strings.{chunk_text, escaped, octet_text, string_text};
+ghost use Rattle.em_json.specs.Strings.{chunk_text, escaped, joined, joined_behind, octet_text, string_text, strings_text};
 
-use em_text::{WriteFailed, octet_digits, write_pieces, write_whole};
+use em_text::{WriteFailed, next_line, octet_digits, write_pieces, write_whole};
 use std::io::Write;
 use std::str::Utf8Chunk;
 
@@ -24,6 +26,49 @@ pub fn write_string<W: Write>(writer: &mut W, octets: &[u8]) -> Result<(), Write
     write_whole(writer, b"\"")?;
     write_lossy(writer, octets)?;
     write_whole(writer, b"\"")
+}
+
+/// Writes the lines of a text as a list of strings.
+pub fn write_strings<W: Write>(writer: &mut W, text: &[u8]) -> Result<(), WriteFailed>
+    ensures writes { Writes (W.contents writer.old) (W.contents writer.new) result (strings_text text.now) }
+{
+    write_whole(writer, b"[")?;
+    write_joined(writer, text)?;
+    write_whole(writer, b"]")
+}
+
+/// Writes the lines of a text as strings, with a comma between two.
+fn write_joined<W: Write>(writer: &mut W, text: &[u8]) -> Result<(), WriteFailed>
+    ensures writes { Writes (W.contents writer.old) (W.contents writer.new) result (joined (lines_of text.now)) }
+{
+    if text.is_empty() {
+        return Ok(());
+    }
+    let (line, behind) = next_line(text);
+    write_string(writer, line)?;
+    write_joined_behind(writer, behind)
+}
+
+/// Writes the lines of a text as strings, each behind a comma.
+fn write_joined_behind<W: Write>(writer: &mut W, text: &[u8]) -> Result<(), WriteFailed>
+    ensures writes { Writes (W.contents writer.old) (W.contents writer.new) result
+        (joined_behind (lines_of text.now)) }
+{
+    let mut rest = text;
+    while !rest.is_empty() {
+        let (line, behind) = next_line(rest);
+        write_next(writer, line)?;
+        rest = behind;
+    }
+    Ok(())
+}
+
+/// Writes a string behind a comma.
+fn write_next<W: Write>(writer: &mut W, line: &[u8]) -> Result<(), WriteFailed>
+    ensures writes { Writes (W.contents writer.old) (W.contents writer.new) result (codes "," ++ string_text line.now) }
+{
+    write_whole(writer, b",")?;
+    write_string(writer, line)
 }
 
 /// Writes the text of octets, with those escaped that a string can't hold.

@@ -1,8 +1,8 @@
 use Rattle.std.proofs.Common.{take}
 use Rattle.std.specs.List.{flat_map}
 use Rattle.std.specs.Io.KnownBytes.{Appends}
-use Rattle.em_recording.specs.Strings.{octet_text}
-use Rattle.em_recording.proofs.strings.write_escaped.Given as goal
+use Rattle.em_json.specs.Strings.{octet_text}
+use Rattle.em_json.proofs.strings.write_escaped.Given as goal
 
 -- those so far
 abbrev pub invariant-loop-octet : goal.invariant-loop-octet

@@ -1,7 +1,7 @@
 use Rattle.std.proofs.lemmas.Result.{MatchResult-from_err}
 use Rattle.em_text.proofs.WritingLemmas.{WritesPart-among}
-use Rattle.em_recording.specs.Strings.{octet_text}
-use Rattle.em_recording.proofs.strings.write_escaped.Goals as goal
+use Rattle.em_json.specs.Strings.{octet_text}
+use Rattle.em_json.proofs.strings.write_escaped.Goals as goal
 
 pub returns-in_err-write_octet : goal.returns-in_err-write_octet
 returns-in_err-write_octet g c = record {

@@ -2,8 +2,8 @@ use Rattle.std.proofs.Common.{◌≡◌, ◌∙◌, ◌++◌, ◌==◌, ℕ, Boo
 use Rattle.std.specs.Prelude.{if◌then◌else◌}
 use Rattle.std.specs.Str.Lossy.{replacement_bytes}
 use Rattle.em_text.proofs.WritingLemmas.{Writes-more}
-use Rattle.em_recording.specs.Strings.{escaped}
-use Rattle.em_recording.proofs.strings.write_chunk.Goals as goal
+use Rattle.em_json.specs.Strings.{escaped}
+use Rattle.em_json.proofs.strings.write_chunk.Goals as goal
 
 pub returns-else-is_empty : goal.returns-else-is_empty
 returns-else-is_empty g c =

@@ -3,8 +3,8 @@ use Rattle.std.specs.Prelude.{codes}
 use Rattle.std.proofs.lemmas.Result.{MatchResult-from_err}
 use Rattle.em_text.proofs.WritingLemmas.{WroteFront-more, WroteFront-none, WroteFront-part, Writes-more}
 use Rattle.em_text.specs.Writer.{hex_text}
-use Rattle.em_recording.specs.Text.{octets_text}
-use Rattle.em_recording.proofs.numbers.write_hex.Goals as goal
+use Rattle.em_json.specs.Text.{octets_text}
+use Rattle.em_json.proofs.numbers.write_hex.Goals as goal
 
 pub returns-in_err-write_octets : goal.returns-in_err-write_octets
 returns-in_err-write_octets g c =

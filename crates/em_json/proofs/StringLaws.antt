@@ -6,7 +6,7 @@ use Rattle.std.proofs.lemmas.Bool.Decides.{nat_tests}
 use Rattle.std.proofs.lemmas.List.Concat.{flat_map-append}
 use Rattle.std.proofs.lemmas.Str.{utf8_lossy_chunk, utf8_lossy_empty, utf8_lossy_last_chunk}
 use Rattle.std.specs.Str.Lossy.{replacement_bytes, utf8_invalid_len, utf8_lossy, utf8_valid_len}
-use Rattle.em_recording.specs.Strings.{chunk_text, escaped, octet_text}
+use Rattle.em_json.specs.Strings.{chunk_text, escaped, octet_text}
 
 -- a run of text, and U+FFFD where octets come behind it that are none
 abbrev pub run_of : List ℕ → List ℕ → List ℕ
