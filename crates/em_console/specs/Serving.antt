@@ -24,15 +24,19 @@ turns (round ∷ rounds) = Typed round.line ∷ Told round.text ∷ turns rounds
 abbrev pub Answering : Type 0 → Type 1
 Answering S = S → List ℕ → List ℕ → Flow → S → Type 0
 
--- the answer to a line that is too long
+-- how it defines its refusals of lines that are too long: in a state, of a line, this text
+abbrev pub Refusing : Type 0 → Type 1
+Refusing S = S → List ℕ → List ℕ → Type 0
+
+-- what is said of a line that is too long
 abbrev pub long_text : List ℕ
 long_text = codes "a line has at most 65536 octets\n"
 
 -- the session answers each line but one that is too long: that is refused, and the session stays and goes on
-abbrev pub within : {S : Type 0} → Answering S → Answering S
-within answers before line text flow after =
+abbrev pub within : {S : Type 0} → Answering S → Refusing S → Answering S
+within answers refuses before line text flow after =
     (length line ≤ most_line → answers before line text flow after)
-    × (most_line < length line → (text ≡ long_text) × (flow ≡ Goes) × (after ≡ before))
+    × (most_line < length line → refuses before line text × (flow ≡ Goes) × (after ≡ before))
 
 -- memory for an answer is refused, where the session stops so, or before a line that is too long is refused
 abbrev pub halts : {S : Type 0} → (S → List ℕ → S → Type 0) → S → List ℕ → S → Type 0

@@ -8,8 +8,8 @@ use crate::reading::MOST_LINE;
 use crate::session::{Answers, Flow};
 use std::alloc::{AllocError, Global};
 
-/// The answer to a line that is too long.
-const LONG_LINE: &[u8] = b"a line has at most 65536 octets\n";
+/// What is said of a line that is too long.
+pub const LONG_LINE: &[u8] = b"a line has at most 65536 octets\n";
 
 /// How serving ended, if nothing failed.
 #[derive(Clone, Copy, PartialEq, Eq, Debug)]
@@ -29,7 +29,7 @@ pub fn serve<C: Console, S: Answers>(
     console: &mut C,
     session: &mut S,
 ) -> Result<End, ConsoleFault>
-    ensures { Serves C.passes (within S.answers) (halts S.stops) result console.old console.new
+    ensures { Serves C.passes (within S.answers S.refuses) (halts S.stops) result console.old console.new
         session.old session.new }
 {
     let mut line = Vec::new(alloc);
@@ -59,11 +59,11 @@ fn answer_to<S: Answers>(
     text: &mut Vec<u8>,
 ) -> Result<Flow, AllocError>
     requires { text.old.items ≡ [] }
-    ensures ok { IfOk result (λ flow. within S.answers session.old line.now text.new.items flow session.new) }
+    ensures ok { IfOk result (λ flow. within S.answers S.refuses session.old line.now text.new.items flow session.new) }
     ensures err { OnErr result (halts S.stops session.old line.now session.new) }
 {
     if line.len() > MOST_LINE {
-        text.extend_from_slice(LONG_LINE)?;
+        session.refuse(line, text)?;
         return Ok(Flow::Goes);
     }
     session.answer(line, text)
