@@ -27,6 +27,7 @@ pub mod Played
 pub mod Reading
 pub mod Search
 pub mod Sending
+pub mod Standing
 pub mod Stops
 pub mod Told
 pub mod Warned

@@ -26,7 +26,7 @@ use std::alloc::Global;
 use std::io::Write;
 
 /// A line that is typed has fewer octets.
-const MOST_TYPED: usize = 0xFFFF_FFFF;
+pub(crate) const MOST_TYPED: usize = 0xFFFF_FFFF;
 
 impl Debugger {
     /// Answers a typed line, and says whether the session goes on.
@@ -163,7 +163,7 @@ impl Debugger {
 }
 
 /// The line of em_bench's, where one was typed; an expected answer, a source and a comment may stand behind it.
-fn asking(profile: Profile, line: &[u8]) -> Option<BenchLine<'_>>
+pub(crate) fn asking(profile: Profile, line: &[u8]) -> Option<BenchLine<'_>>
     requires { length line.now < 0xFFFF_FFFF }
     ensures { option_map plain_line result ≡ asking profile line.now }
 {

@@ -33,6 +33,7 @@ mod played;
 mod reading;
 mod search;
 mod sending;
+mod standing;
 mod stops;
 mod told;
 mod warned;

@@ -63,7 +63,7 @@ fn time_in_comment(comment: Option<&[u8]>) -> Option<u64>
 }
 
 /// Where a line comes from; no octet where it does not say so.
-fn source_of(line: &[u8]) -> &[u8]
+pub(crate) fn source_of(line: &[u8]) -> &[u8]
     ensures { result.now ≡ source_of line.now }
 {
     parts_of(line).source.unwrap_or_default()

@@ -88,7 +88,7 @@ impl Debugger {
     }
 
     /// Whether lines lie ahead of the place, or events.
-    fn is_among_lines(&self) -> bool
+    pub(crate) fn is_among_lines(&self) -> bool
         ensures { result ≡ is_among_lines self.now.tape }
     {
         self.tape.whole() < self.tape.len() || !self.tape.is_whole()
