@@ -18,6 +18,7 @@ Options:
       --all          With --compare: show the first of each register, count them all, and end
       --all-known    With --compare: show those that differ for a known cause, too
       --strict       End with status 1 where a line has a warning, too
+      --json         Answer each line by an object of JSON on one line, for programs
       --pcap <FILE>  Write the frames that were sent to this file at the end, as a capture
   -x <COMMANDS>      Take what is typed from this file
       --memory <N>   Octets of guest memory, a multiple of 4096; K, M or G may stand behind N [default: 65536]

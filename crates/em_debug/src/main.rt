@@ -6,6 +6,7 @@
 //!     em_debug [OPTIONS] --compare [--all] SCRIPT
 //!
 //! The options are those of em_bench. The script is played to its end first; `--step` stops before its first line.
+//! With `--json` each answer is an object of JSON.
 //! `--batch` lists the lines with their answers, and ends; `--compare` compares the answers with those that lines expect.
 #![tactic(auto)]
 
@@ -27,13 +28,14 @@ use crate::marks::Marks;
 use crate::session::Served;
 use crate::words::{Asked, Words, WordsRefused};
 use anyhow::{Result, bail};
-use em_console::{Answers, Console, LineConsole, prompt_for, serve};
+use em_console::{Console, LineConsole, Objects, Stands, prompt_for, serve, write_opening};
 use em_debugger::{Added, Debugger, Disk, Score};
 use em_ending::Ending;
 use em_input::{BASES, BUDGETS, Head, MACS, PROFILES, SIZES, take_head};
 use em_journal::{Settings, SettingsRefusal};
 use em_options::{Options, OptionsRefused, options};
 use em_script::BenchFault;
+use std::alloc::Global;
 use std::fs::File;
 use std::io::{self, BufRead, BufReader, BufWriter, Write};
 use std::mem;
@@ -185,15 +187,16 @@ fn with_options<R: Files + Input + Print + Eprint + AllocGlobal>(
     let settings = words.machine.settings(options.settings(), script.head);
     match Debugger::new(rt.alloc(), settings) {
         Ok(debugger) => {
-            let mut served = Served {
+            let served = Served {
                 debugger,
                 disk: Host { rt },
                 marks: None,
                 last: None,
             };
+            let mut served = Objects::new(rt.alloc(), served);
             let ended = with_capture(rt, &mut served, script, words, prompt);
-            let score = served.debugger.score();
-            let is_warned = words.strict && served.debugger.has_warnings();
+            let score = served.session.debugger.score();
+            let is_warned = words.strict && served.session.debugger.has_warnings();
             // The system takes its memory back when the program ends, all at once.
             mem::forget(served);
             match ended {
@@ -251,6 +254,8 @@ fn with_score<R: Print>(rt: &R, score: Score, found: Found, words: &Words) -> u8
         println!(rt;
             "agreed {agreed}, known {known}, differed {differed}, bad {bad}, warnings {warnings}"
         ).is_ok()
+    } else if words.json {
+        println!(rt; "{{\"end\":{{\"agreed\":{agreed},\"differed\":{differed}}}}}").is_ok()
     } else if words.batch {
         println!(rt; "agreed {agreed}, differed {differed}, bad {bad}, warnings {warnings}").is_ok()
     } else {
@@ -271,16 +276,15 @@ fn with_score<R: Print>(rt: &R, score: Score, found: Found, words: &Words) -> u8
 /// were bad.
 fn with_capture<R: Files + Input + Print + Eprint + AllocGlobal>(
     rt: &R,
-    served: &mut Served<Host<'_, R>>,
+    served: &mut Objects<Served<Host<'_, R>>>,
     script: Script<'_>,
     words: &Words,
     prompt: &[u8],
 ) -> Result<Found> {
     let found = with_session(rt, served, script, words, prompt)?;
     if let Some(name) = &words.capture {
-        let saved = served
-            .debugger
-            .save_capture(&mut served.disk, name.as_str().as_bytes(), true);
+        let Served { debugger, disk, .. } = &mut served.session;
+        let saved = debugger.save_capture(disk, name.as_str().as_bytes(), true);
         if saved.is_err() {
             bail!("{name}: the capture cannot be written");
         }
@@ -291,7 +295,7 @@ fn with_capture<R: Files + Input + Print + Eprint + AllocGlobal>(
 /// Plays the script, opens where lines come from, and answers them. Gives how many lines were bad.
 fn with_session<R: Files + Input + Print + Eprint + AllocGlobal>(
     rt: &R,
-    served: &mut Served<Host<'_, R>>,
+    served: &mut Objects<Served<Host<'_, R>>>,
     script: Script<'_>,
     words: &Words,
     prompt: &[u8],
@@ -305,24 +309,31 @@ fn with_session<R: Files + Input + Print + Eprint + AllocGlobal>(
     } = script;
     if let Some(read) = read {
         let script = read?;
-        let added = served.debugger.add_lines(script.as_slice());
+        let debugger = &mut served.session.debugger;
+        let added = debugger.add_lines(script.as_slice());
         // Where all were added and none is bad, they need not be looked at again.
         if !matches!(added, Ok(Added { are_read: true, .. })) {
-            bad = tell_bad_lines(rt, name, served.debugger.profile(), script.as_slice())?;
+            bad = tell_bad_lines(rt, name, debugger.profile(), script.as_slice())?;
         }
         drop(script);
         if words.batch || words.compare {
-            let known = play(rt, served, words, added)?;
+            let known = play(rt, &mut served.session, words, added)?;
             return Ok(Found { bad, known });
         }
-        let begun = served.debugger.begin_added(&mut text, added, words.step);
+        let begun = debugger.begin_added(&mut text, added, words.step);
         if begun.is_err() {
             bail!("{NO_MEMORY}");
         }
     }
     match &words.commands {
         Some(path) => {
-            let wrong = with_commands(rt, served, path.as_str(), text.as_slice())?;
+            let source = Source {
+                name: path.as_str(),
+                prompt: b"",
+                script: name,
+                is_json: words.json,
+            };
+            let wrong = with_commands(rt, served, text.as_slice(), source)?;
             Ok(Found {
                 bad: bad.saturating_add(wrong),
                 known: 0,
@@ -330,12 +341,15 @@ fn with_session<R: Files + Input + Print + Eprint + AllocGlobal>(
         }
         None => {
             let reader = BufReader::new(rt.alloc(), rt.reader())?;
+            let prompt: &[u8] = if words.json { b"" } else { prompt };
             if !prompt.is_empty() {
-                served.last = Some(Vec::new(rt.alloc()));
+                served.session.last = Some(Vec::new(rt.alloc()));
             }
             let source = Source {
                 name: "standard input",
                 prompt,
+                script: name,
+                is_json: words.json,
             };
             with_reader(rt, served, reader, text.as_slice(), source)?;
             Ok(Found { bad, known: 0 })
@@ -368,10 +382,11 @@ fn play<R: Print + AllocGlobal, D: Disk + Drop>(
 /// Answers the lines of a file, and gives how many of them were wrong.
 fn with_commands<R: Files + Print + Eprint + AllocGlobal, D: Disk + Drop>(
     rt: &R,
-    served: &mut Served<D>,
-    path: &str,
+    served: &mut Objects<Served<D>>,
     text: &[u8],
+    source: Source<'_>,
 ) -> Result<u64> {
+    let path = source.name;
     let file = match File::open(rt, path) {
         Ok(file) => file,
         Err(error) => return Err(open_fault(path, &error)),
@@ -379,18 +394,10 @@ fn with_commands<R: Files + Print + Eprint + AllocGlobal, D: Disk + Drop>(
     let mut reader = BufReader::new(rt.alloc(), file)?;
     see_commands(path, &mut reader)?;
     let head = format!(in rt.alloc(); "em_debug: {path}")?;
-    served.marks = Some(Marks::new(rt.alloc(), served.debugger.profile(), head.into_bytes()));
-    let ended = with_reader(
-        rt,
-        served,
-        reader,
-        text,
-        Source {
-            name: path,
-            prompt: b"",
-        },
-    );
-    let wrong = match &served.marks {
+    let profile = served.session.debugger.profile();
+    served.session.marks = Some(Marks::new(rt.alloc(), profile, head.into_bytes()));
+    let ended = with_reader(rt, served, reader, text, source);
+    let wrong = match &served.session.marks {
         Some(marks) => tell_marks(rt, marks),
         None => 0,
     };
@@ -407,28 +414,56 @@ fn list<R: Print + AllocGlobal, D: Disk + Drop>(rt: &R, served: &mut Served<D>) 
     Ok(())
 }
 
-/// Where lines come from, and what each is asked for with.
+/// Where lines come from, what each is asked for with, of which script they ask, and whether they are answered by objects.
 #[derive(Clone, Copy, Debug)]
 struct Source<'a> {
     name: &'a str,
     prompt: &'a [u8],
+    script: &'a str,
+    is_json: bool,
 }
 
 /// Tells what the script did, and answers each line of a reader.
-fn with_reader<R: Print + AllocGlobal, S: Answers, B: BufRead + Drop>(
+fn with_reader<R: Print + AllocGlobal, D: Disk + Drop, B: BufRead + Drop>(
     rt: &R,
-    served: &mut S,
+    served: &mut Objects<Served<D>>,
     reader: B,
     text: &[u8],
     source: Source<'_>,
 ) -> Result<()> {
     let writer = BufWriter::new(rt.alloc(), io::writer(rt))?;
     let mut console = LineConsole::new(reader, writer, source.prompt);
-    if let Err(fault) = console.tell(text) {
+    let told = if source.is_json {
+        let opening = opening(rt.alloc(), &served.session, text, source.script)?;
+        console.tell(opening.as_slice())
+    } else {
+        console.tell(text)
+    };
+    if let Err(fault) = told {
         return Err(console_fault(fault, source.name));
     }
-    match serve(rt.alloc(), &mut console, served) {
+    let ended = if source.is_json {
+        serve(rt.alloc(), &mut console, served)
+    } else {
+        serve(rt.alloc(), &mut console, &mut served.session)
+    };
+    match ended {
         Ok(_) => Ok(()),
         Err(fault) => Err(console_fault(fault, source.name)),
     }
+}
+
+/// What a script did, as an object.
+fn opening<D: Disk + Drop>(
+    alloc: Global,
+    served: &Served<D>,
+    text: &[u8],
+    script: &str,
+) -> Result<Vec<u8>> {
+    let mut opening = Vec::new(alloc);
+    let (standing, source) = (served.standing(), served.source());
+    if write_opening(&mut opening, script.as_bytes(), text, standing, source).is_err() {
+        bail!("{NO_MEMORY}");
+    }
+    Ok(opening)
 }

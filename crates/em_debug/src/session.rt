@@ -2,11 +2,13 @@
 ghost use Rattle.std.specs.Prelude.{◌≡◌, ⊤, OnOk};
 ghost use Rattle.std.specs.Option.{option_map};
 ghost use Rattle.em_debugger.specs.Answering.{Answers as AnswersLine};
+ghost use Rattle.em_console.specs.Serving.{long_text};
 ghost use Rattle.em_debugger.specs.Disk.{Did};
+ghost use Rattle.em_debugger.specs.Standing.{became_of, source_here, standing};
 ghost use Rattle.em_debug.specs.Session.{last_after, meant};
 
 use crate::marks::Marks;
-use em_console::{Answers, Flow};
+use em_console::{Answers, Became, Flow, LONG_LINE, Standing, Stands};
 use em_debugger::{Debugger, Disk};
 use em_text::Words;
 use std::alloc::AllocError;
@@ -30,6 +32,8 @@ impl<D: Disk + Drop> Answers for Served<D> {
     // Where memory is refused, a part of the line may be done.
     ghost stops = { λ before line after. ⊤ };
 
+    ghost refuses = { λ session line text. text ≡ long_text };
+
     fn answer(&mut self, line: &[u8], text: &mut Vec<u8>) -> Result<Flow, AllocError> {
         keep_last(&mut self.last, line)?;
         let meant = match &self.last {
@@ -45,6 +49,31 @@ impl<D: Disk + Drop> Answers for Served<D> {
             marks.note(line);
         }
         answered
+    }
+
+    fn refuse(&self, _line: &[u8], text: &mut Vec<u8>) -> Result<(), AllocError> {
+        text.extend_from_slice(LONG_LINE)?;
+        Ok(())
+    }
+}
+
+impl<D: Disk + Drop> Stands for Served<D> {
+    ghost stands = { λ session. standing session.debugger };
+
+    ghost comes_from = { λ session. source_here session.debugger };
+
+    ghost led = { λ session line before. became_of session.debugger line before };
+
+    fn standing(&self) -> Standing {
+        self.debugger.standing()
+    }
+
+    fn source(&self) -> &[u8] {
+        self.debugger.source()
+    }
+
+    fn became(&self, line: &[u8], before: Standing) -> Became {
+        self.debugger.became(line, before)
     }
 }
 

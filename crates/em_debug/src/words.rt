@@ -33,6 +33,8 @@ pub struct Words {
     pub all_known: bool,
     /// Whether a warning makes the status 1.
     pub strict: bool,
+    /// Whether each answer is an object of JSON.
+    pub json: bool,
     /// The file that commands come from.
     pub commands: Option<String>,
     /// The file that the sent frames go to at the end.
@@ -86,6 +88,7 @@ impl Words {
             all: false,
             all_known: false,
             strict: false,
+            json: false,
             commands: None,
             capture: None,
             asked: Asked::Session,
@@ -141,6 +144,7 @@ impl Words {
             "--all" => set(&mut self.all, "--all")?,
             "--all-known" => set(&mut self.all_known, "--all-known")?,
             "--strict" => set(&mut self.strict, "--strict")?,
+            "--json" => set(&mut self.json, "--json")?,
             "-h" | "--help" => self.asked = Asked::Help,
             "-V" | "--version" => self.asked = Asked::Version,
             "--" => {
@@ -212,6 +216,9 @@ impl Words {
         }
         if self.commands.is_some() {
             return Some("-x does not go with --batch or --compare: nothing is typed there");
+        }
+        if self.json {
+            return Some("--json does not go with --batch or --compare: nothing is typed there");
         }
         None
     }
