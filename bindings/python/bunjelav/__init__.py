@@ -17,6 +17,7 @@
     m.attach(ram)                  # the adapter works on a bytearray, an mmap, or what else has octets
     m.record_to("core.em")         # from the first event on each is kept, with your line: em_debug core.em
     m.pcap_write("sent.pcap")      # the frames that were sent, for Wireshark; frames_of reads a capture
+    Debugger("core.em").who("RDT") # a session of em_debug over a script or a kept run
 
 A register is named as in the manual, in either case of its letters, or by its offset. A call that the model refuses
 raises the exception of the refusal's name, as NoRegister or Range; it has changed nothing.
@@ -38,6 +39,7 @@ from typing import Any, Callable, Dict, Iterable, Iterator, List, Optional, Tupl
 
 from . import _memory, _refusals, _tables
 from ._captures import CapturedFrame, frames_of, must_of_file
+from ._debugger import Answer, Debugger, DebuggerError, NotUnderstood, SessionEnded
 from ._explain import Difference, DriverWarning, Explained, Fifo, Reason, line_of, numbers_of, trouble_of
 from ._memory import Functions, GuestMemory, Region
 from ._native import (
@@ -50,7 +52,8 @@ from ._told import KIND, UNDONE, Change, Event, Needs, RxDescriptor, TxDescripto
 
 __all__ = [
     "Machine", "GuestMemory", "Event", "Change", "Needs", "RxDescriptor", "TxDescriptor", "Reason", "DriverWarning",
-    "Difference", "Fifo", "CapturedFrame", "frames_of", "name_of", "offset_of", "bits_of", "words_of",
+    "Difference", "Fifo", "CapturedFrame", "frames_of", "name_of", "offset_of", "bits_of", "words_of", "Debugger",
+    "Answer", "DebuggerError", "NotUnderstood", "SessionEnded",
 ]
 __all__ += _refusals.__all__
 __version__ = _tables.VERSION
