@@ -3,7 +3,7 @@
 --
 -- ReadingLaws (`read_line`, `take_at_hand`): the first line of what a reader has, from the parts that it gave
 -- ServingLaws (`serve`): each line is answered before the next one is asked for
--- ObjectLaws (`write_answer`, `write_opening`, `Objects`): objects, field by field, and whose answers they are
+-- ObjectLaws (`write_answer`, `write_opening`, `answer`, `refuse`): objects, field by field, and whose answers they are
 pub mod ReadingLaws
 pub mod ServingLaws
 pub mod ObjectLaws
