@@ -77,7 +77,7 @@ REFUSED = (
     (["--addr2line", "driver", "--batch", "--pcap", "core", "core"], 2,
      "--pcap core: core is this file too, and would be written over"),
     (["--addr2line", "driver", "-"], 2,
-     "a script of standard input goes with --batch, --compare or -x: what is typed comes from there"),
+     "a script of standard input goes with --batch, --compare, --reduce or -x: what is typed comes from there"),
 )
 # the same of ./em_page, with who says it
 REFUSED_PAGES = (

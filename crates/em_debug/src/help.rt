@@ -8,8 +8,8 @@ the lines of em_bench's language, who changed something, back and forward.
 Usage: em_debug [OPTIONS] [SCRIPT]
 
 Arguments:
-  [SCRIPT]  A script of em_bench's language, which is played to its end first; with --batch, --compare or -x it may be -,
-            which is standard input
+  [SCRIPT]  A script of em_bench's language, which is played to its end first; with --batch, --compare, --reduce or -x
+            it may be -, which is standard input
 
 Options:
       --step         Load the script, and perform none of its lines
@@ -17,6 +17,8 @@ Options:
       --compare      Show the first line whose answer is another than it expects, for no known cause, and end
       --all          With --compare: show the first of each register, count them all, and end
       --all-known    With --compare: show those that differ for a known cause, too
+      --reduce <W>   Leave out lines as long as W still comes, print those that are left, and end: warning RULE, differs,
+                     or a text that stands in an answer
       --strict       End with status 1 where a line has a warning, too
       --json         Answer each line by an object of JSON on one line, for programs
       --pcap <FILE>  Write the frames that were sent to this file at the end, as a capture

@@ -4,6 +4,7 @@
 //!     em_debug [OPTIONS] [--step] [-x COMMANDS] [SCRIPT]
 //!     em_debug [OPTIONS] [--strict] --batch SCRIPT
 //!     em_debug [OPTIONS] --compare [--all] SCRIPT
+//!     em_debug [OPTIONS] --reduce WHAT SCRIPT
 //!
 //! The options are those of em_bench. The script is played to its end first; `--step` stops before its first line.
 //! With `--json` each answer is an object of JSON.
@@ -16,6 +17,7 @@ mod faults;
 mod files;
 mod help;
 mod marks;
+mod reduce;
 mod session;
 mod words;
 
@@ -25,6 +27,7 @@ use crate::faults::{NO_MEMORY, bench_text, console_fault, open_fault, see_comman
 use crate::files::{file_fault, read_script, tell_bad_lines, tell_marks};
 use crate::help::{HELP, VERSION};
 use crate::marks::Marks;
+use crate::reduce::write_reduced;
 use crate::session::Served;
 use crate::words::{Asked, Words, WordsRefused};
 use anyhow::{Result, bail};
@@ -78,6 +81,10 @@ fn debug<R: Env + Files + Input + Print + Eprint + AllocGlobal>(rt: &R, prompt: 
             let _ = eprintln!(rt; "em_debug: {option} stands twice");
             REFUSED
         }
+        Err(WordsRefused::NoAnswer) => refused(
+            rt,
+            "--reduce wants an answer, warning RULE or differs",
+        ),
         Err(WordsRefused::NoBase) => refused(rt, BASES),
         Err(WordsRefused::NoProfile) => refused(rt, PROFILES),
     }
@@ -185,6 +192,9 @@ fn with_options<R: Files + Input + Print + Eprint + AllocGlobal>(
     }
     let script = Script::read(rt, options.script);
     let settings = words.machine.settings(options.settings(), script.head);
+    if let Some(wanted) = &words.reduce {
+        return with_reduced(rt, settings, script, wanted.as_str());
+    }
     match Debugger::new(rt.alloc(), settings) {
         Ok(debugger) => {
             let served = Served {
@@ -209,6 +219,35 @@ fn with_options<R: Files + Input + Print + Eprint + AllocGlobal>(
             }
         }
         Err(refusal) => without_machine(rt, settings, refusal),
+    }
+}
+
+/// Writes what is left of the script, and gives the status.
+fn with_reduced<R: Files + Print + Eprint + AllocGlobal>(
+    rt: &R,
+    settings: Settings,
+    script: Script<'_>,
+    wanted: &str,
+) -> u8 {
+    let has_head = script.head.is_some();
+    let reduced = match script.text {
+        Some(Ok(text)) => write_reduced(rt, settings, text.as_slice(), has_head, wanted),
+        Some(Err(error)) => Err(error),
+        None => Ok(None),
+    };
+    match reduced {
+        Ok(Some((left, lines))) => {
+            let _ = eprintln!(rt; "em_debug: {left} of {lines} lines are left");
+            WELL
+        }
+        Ok(None) => {
+            let _ = eprintln!(rt; "em_debug: --reduce {wanted}: it does not come");
+            DIFFERED
+        }
+        Err(error) => {
+            let _ = eprintln!(rt; "em_debug: {error}");
+            FAILED
+        }
     }
 }
 

@@ -35,6 +35,8 @@ pub struct Words {
     pub strict: bool,
     /// Whether each answer is an object of JSON.
     pub json: bool,
+    /// What is to come still as lines of the script are left out.
+    pub reduce: Option<String>,
     /// The file that commands come from.
     pub commands: Option<String>,
     /// The file that the sent frames go to at the end.
@@ -51,6 +53,8 @@ pub enum WordsRefused {
     Memory,
     /// No file stands behind this option.
     NoFile(&'static str),
+    /// Nothing stands behind `--reduce`.
+    NoAnswer,
     /// This option stands twice.
     Twice(&'static str),
     /// No address stands behind `--base`.
@@ -89,6 +93,7 @@ impl Words {
             all_known: false,
             strict: false,
             json: false,
+            reduce: None,
             commands: None,
             capture: None,
             asked: Asked::Session,
@@ -106,6 +111,7 @@ impl Words {
         match before {
             Before::Commands => Err(WordsRefused::NoFile("-x")),
             Before::Capture => Err(WordsRefused::NoFile("--pcap")),
+            Before::Reduce => Err(WordsRefused::NoAnswer),
             Before::Scripts | Before::Other => match words.machine.lacks() {
                 Some(refused) => Err(WordsRefused::from(refused)),
                 None => Ok(words),
@@ -123,6 +129,7 @@ impl Words {
         match before {
             Before::Commands => self.take_commands(word)?,
             Before::Capture => self.take_capture(word)?,
+            Before::Reduce => self.take_reduce(word)?,
             Before::Scripts => {
                 self.machine.take(alloc, word)?;
                 return Ok(Before::Scripts);
@@ -138,6 +145,7 @@ impl Words {
         match word.as_str() {
             "-x" => return Ok(Before::Commands),
             "--pcap" => return Ok(Before::Capture),
+            "--reduce" => return Ok(Before::Reduce),
             "--step" => set(&mut self.step, "--step")?,
             "--batch" => set(&mut self.batch, "--batch")?,
             "--compare" => set(&mut self.compare, "--compare")?,
@@ -175,8 +183,19 @@ impl Words {
         Ok(())
     }
 
+    fn take_reduce(&mut self, word: String) -> Result<(), WordsRefused> {
+        if self.reduce.is_some() {
+            return Err(WordsRefused::Twice("--reduce"));
+        }
+        self.reduce = Some(word);
+        Ok(())
+    }
+
     /// Which of its words do not go together, or lack something, with a script or without one; the first, if there is one.
     pub fn fault(&self, script: Option<&str>) -> Option<&'static str> {
+        if self.reduce.is_some() {
+            return self.fault_beside_reduce(script);
+        }
         if self.batch && self.compare {
             return Some("--batch and --compare do not go together");
         }
@@ -192,9 +211,22 @@ impl Words {
         match script {
             None if self.step => Some("--step wants a script"),
             Some("-") if self.commands.is_none() => Some(
-                "a script of standard input goes with --batch, --compare or -x: what is typed comes from there",
+                "a script of standard input goes with --batch, --compare, --reduce or -x: what is typed comes from there",
             ),
             _ => None,
+        }
+    }
+
+    /// The same beside `--reduce`.
+    fn fault_beside_reduce(&self, script: Option<&str>) -> Option<&'static str> {
+        let has_mode = self.batch || self.compare || self.json || self.step || self.strict;
+        let has_file = self.commands.is_some() || self.capture.is_some();
+        if has_mode || has_file || self.all || self.all_known {
+            return Some("--reduce goes with no other mode: it writes a script, and ends");
+        }
+        match script {
+            None => Some("--reduce wants a script"),
+            Some(_) => None,
         }
     }
 
@@ -240,6 +272,8 @@ enum Before {
     Commands,
     /// `--pcap`, which a file follows.
     Capture,
+    /// `--reduce`, which what is to come follows.
+    Reduce,
     /// `--`, behind which each word is a script.
     Scripts,
     Other,
