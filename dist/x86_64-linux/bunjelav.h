@@ -449,6 +449,11 @@ EM_CHECKED em_code em_run_tx(em_machine *machine, size_t n, size_t *done);
 /* The interrupt line: 1 where it is asserted, else 0. Constant. */
 EM_CHECKED em_code em_line(const em_machine *machine, uint32_t *level);
 
+/* Whether frames that are sent come back: 1, else 0. A machine of the second profile loops by RCTL.LBM (bits 7:6) or by
+   bit 14 of the PHY's word 0. A frame that it sends then is on the wire as any other is, and who carries the wire calls
+   em_arrive with it, and lets no other frame arrive. Constant. */
+EM_CHECKED em_code em_loops(const em_machine *machine, uint32_t *loops);
+
 /* How many frames were sent since the machine was made. Constant. */
 EM_CHECKED em_code em_wire_count(const em_machine *machine, size_t *count);
 
@@ -629,7 +634,11 @@ typedef enum em_rule {
   EM_WHY_TX_EXTENDED = 28, /* a transmit step was refused: the descriptor at TDH is extended (DEXT) */
   EM_WHY_TX_TOO_LONG = 29, /* a transmit step was refused: the buffers of the frame hold more than 16,380 octets */
   EM_WHY_TX_BUFFER = 30, /* a transmit step was refused: the buffer of the descriptor at TDH leaves guest memory */
-  EM_WHY_MEMORY = 31 /* an event was refused: the host gave no memory */
+  EM_WHY_MEMORY = 31, /* an event was refused: the host gave no memory */
+  EM_WHY_FRAME_CONTROL = 32, /* a frame was dropped: it is a MAC control frame, no filter has its destination, and
+                                RCTL.PMCF is clear */
+  EM_WHY_FRAME_CFI = 33, /* a frame was dropped: the CFI of its tag is not RCTL.CFI */
+  EM_WHY_FRAME_PAUSE = 34 /* a frame was dropped: it is a pause frame, and RCTL.DPF is set */
 } em_rule;
 
 /* Why an event did nothing. A number that the rule has not is 0. */
