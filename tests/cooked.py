@@ -113,6 +113,30 @@ def by_hand(tally: Tally, em_trace: str, capture: Path, name: str) -> None:
     tally.check(name, [] if plain.stdout.count(b"arrive 525400123456020000000001") == 3 else [f"{plain}"])
 
 
+# the adapter's own frame, which em_debug offers as it does those of other captures
+OWN_FRAME = "020000000000" "525400123456" "0800" + "A8" * 46
+
+
+def try_loaded(tally: Tally, em_debug: str) -> None:
+    """em_debug's `load` offers the frames that the packets were, its own among them."""
+    # of the one that was cut it has what was captured
+    wanted = [(line or OWN_FRAME).removesuffix(" 114") for words, line in PACKETS if line or words[0] == OUT]
+    typed = "load any.{}\nlink up\nw RCTL 801A\narrive all\nsave kept.em\n"
+    with tempfile.TemporaryDirectory() as folder:
+        room = Path(folder)
+        for link in (SLL, SLL2):
+            for order in "<>":
+                records = [record(order, link, *words) for words, _ in PACKETS]
+                for kind, octets in files_of(order, link, records).items():
+                    (room / f"any.{kind}").write_bytes(octets)
+                    (room / "kept.em").unlink(missing_ok=True)
+                    ran = run([em_debug], typed.format(kind).encode(), cwd=room)
+                    kept = (room / "kept.em").read_text() if (room / "kept.em").is_file() else ""
+                    lines = re.findall(r"(?m)^arrive (.*)$", kept)
+                    tally.check(f"cooked packets, loaded, {kind}, {link} {order}",
+                                [] if ran.returncode == 0 and lines == wanted else [f"{ran}", *lines])
+
+
 def together(tally: Tally, em_trace: str, capture: Path) -> None:
     """Interfaces of three kinds beside each other: each packet is of its own one. Another link type is refused."""
     frame = bytes.fromhex("ffffffffffff020000000001") + b"\x88\xcc" + b"\xb1" * 46

@@ -1,5 +1,6 @@
 """Captures in the Python binding: what was sent, written and read back, what is wrong with one, and files that fail."""
 import os
+import struct
 import tempfile
 import unittest
 from pathlib import Path
@@ -65,6 +66,28 @@ class Captures(unittest.TestCase):
         lines = self.path.with_suffix(".em").read_text().splitlines()
         at = next(i for i, line in enumerate(lines, 1) if line.startswith("tx =sent 0 60"))
         self.assertEqual([it.nanoseconds for it in frames_of(self.path)], [1000 * at])
+
+    def test_cooked_packets_are_frames(self):
+        # `tcpdump -i any`: link type 276, to this host, and sent by it, ARP and IPv4; the link type stands for the file, or for
+        # its one interface
+        behind, source = b"\xa1" * 46, bytes.fromhex("020000000001")
+        packets = [struct.pack(">HHIHBB8s", protocol, 0, 3, 1, way, 6, source) + behind
+                   for way, protocol in ((0, 0x0806), (4, 0x0800))]
+        wanted = [bytes.fromhex("525400123456") + source + b"\x08\x06" + behind,
+                  bytes(6) + source + b"\x08\x00" + behind]
+        wanted[1] = b"\x02" + wanted[1][1:]
+        classic = struct.pack("<IHHIIII", 0xA1B2C3D4, 2, 4, 0, 0, 262_144, 276)
+        classic += b"".join(struct.pack("<IIII", 1, 2, len(it), len(it)) + it for it in packets)
+
+        def block(kind: int, body: bytes) -> bytes:
+            return struct.pack("<II", kind, 12 + len(body)) + body + struct.pack("<I", 12 + len(body))
+
+        newer = block(0x0A0D0D0A, struct.pack("<IHHq", 0x1A2B3C4D, 1, 0, -1)) + block(1, struct.pack("<HHI", 276, 0, 0))
+        newer += b"".join(block(6, struct.pack("<IIIII", 0, 0, 1_000_002, len(it), len(it)) + it + bytes(-len(it) % 4))
+                          for it in packets)
+        for octets in (classic, newer):
+            self.path.write_bytes(octets)
+            self.assertEqual([bytes(it.octets) for it in frames_of(self.path)], wanted)
 
     def test_files_that_fail(self):
         m = sent()
