@@ -181,7 +181,8 @@ def frames(tally: Tally, room: Path) -> None:
 
 def words(tally: Tally, room: Path) -> None:
     """The words behind --stop-at; and the warnings that it knows are those of docs/debugger.md."""
-    rules = re.findall(r"^\| `([a-z-]+)` \|", (TOP / "docs" / "debugger.md").read_text(), re.M)
+    page = (TOP / "docs" / "debugger.md").read_text()
+    rules = re.findall(r"^\| `([a-z-]+)` \|", page[page.index("\n## Warnings"):], re.M)
     known = re.search(r"rules\[\] = \{(.*?)\};", (TOP / "guest" / "stop.c").read_text(), re.S)[1]
     tally.check("the names of warnings", differ({"in guest/stop.c": (re.findall(r'"([a-z-]+)"', known), rules)}))
     for given, sentence in (

@@ -1,8 +1,10 @@
 """em_guest with a QEMU that is played: rings, and the guest memory that they lie in."""
+import fcntl
 import os
 import re
 import socket
 import struct
+import termios
 import time
 from pathlib import Path
 
@@ -277,6 +279,11 @@ def waiting(tally: Tally, room: Path) -> None:
     own.close()
 
 
+def is_taken(sender: socket.socket) -> bool:
+    """Whether all that was sent was read."""
+    return struct.unpack("i", fcntl.ioctl(sender, termios.TIOCOUTQ, bytes(4)))[0] == 0
+
+
 def looping(tally: Tally, room: Path) -> None:
     """What is sent in loopback comes back, by RCTL.LBM and by the PHY's word 0, and nothing comes from the wire."""
     wire = room / "looping-wire"
@@ -293,7 +300,9 @@ def looping(tally: Tally, room: Path) -> None:
         if i == 1:
             qemu.write(0x0100, RECEIVING | 1 << 26)
         qemu.write(offset, value)
-        own.sendto(bytes(60), str(wire) + ".guest") if i < 2 else None
+        if i < 2:
+            own.sendto(bytes(60), str(wire) + ".guest")
+            seen[f"what comes is lost, {i}"] = (until(lambda: is_taken(own)), True)
         qemu.poke(0x20000 + 0x1000 * i, frames[i])
         qemu.poke(0x2000 + 16 * i, transmit_descriptor(0x20000 + 0x1000 * i, len(frames[i])))
         qemu.write(0x3818, i + 1)
