@@ -33,6 +33,7 @@ import ctypes
 import html
 import operator
 import os
+import re
 import sys
 from pathlib import Path  # noqa: F401  (for an example)
 from typing import Any, Callable, Dict, Iterable, Iterator, List, Optional, Tuple, Union
@@ -60,6 +61,8 @@ __version__ = _tables.VERSION
 
 # the names of the files that perform events, by which their frames are known
 _OWN = globals(), vars(_memory)
+# A word of the PHY, as it is watched.
+_PHY_WORD = re.compile(r"(?i:phy) ([0-9]{1,9})")
 
 
 class Machine(Explained):
@@ -643,7 +646,7 @@ class Machine(Explained):
 
     def last_change(self, what: Union[Register, slice]) -> Optional[Change]:
         """Which event changed it last: a register, a slice of at most 16 octets of memory, "line", "link", "frames"
-        (how many lie in the FIFO) or "sent". None where no event of the journal did."""
+        (how many lie in the FIFO), "sent", or "PHY 17", a word of the PHY. None where no event of the journal did."""
         watch, change = self._watch(what), _tables.Change()
         number = library.em_last_change(self._at, ctypes.byref(watch), ctypes.byref(change))
         if number == _tables.REFUSALS["NoChange"]:
@@ -659,6 +662,9 @@ class Machine(Explained):
             return _tables.Watch(_tables.WATCHES["octets"], 0, octets.start, len(octets))
         if isinstance(what, str) and what in ("line", "link", "frames", "sent"):
             return _tables.Watch(_tables.WATCHES[what], 0, 0, 0)
+        phy = _PHY_WORD.fullmatch(what) if isinstance(what, str) else None
+        if phy:
+            return _tables.Watch(_tables.WATCHES["phy"], int(phy[1]), 0, 0)
         return _tables.Watch(_tables.WATCHES["register"], offset_of(what), 0, 0)
 
     def _watched(self, where: slice) -> range:

@@ -88,6 +88,7 @@ WATCHES = {
     "link": 4,
     "frames": 5,
     "sent": 6,
+    "phy": 7,
 }
 
 # by name, the number of each ring
@@ -139,6 +140,7 @@ RULES = {
     32: "frame control",
     33: "frame cfi",
     34: "frame pause",
+    35: "tx link down",
 }
 
 # by number, what each rule by which an access has a warning is called

@@ -1,6 +1,6 @@
 //! What an event was, and what is watched.
 use crate::raw;
-use crate::tables::{KINDS, WATCH_FRAMES, WATCH_LINE, WATCH_LINK, WATCH_OCTETS, WATCH_REGISTER, WATCH_SENT};
+use crate::tables::{KINDS, WATCH_FRAMES, WATCH_LINE, WATCH_LINK, WATCH_OCTETS, WATCH_PHY, WATCH_REGISTER, WATCH_SENT};
 use crate::{Kind, Refusal};
 use core::fmt;
 
@@ -68,6 +68,9 @@ pub enum Watch {
     Frames,
     /// How many frames were sent.
     Sent,
+    /// The word of the PHY of that number, 0 to 31, as a read of it by MDIC gives it. In the first profile nothing
+    /// changes it.
+    Phy(u8),
 }
 
 impl Watch {
@@ -79,6 +82,7 @@ impl Watch {
             Watch::Link => (WATCH_LINK, 0, 0, 0),
             Watch::Frames => (WATCH_FRAMES, 0, 0, 0),
             Watch::Sent => (WATCH_SENT, 0, 0, 0),
+            Watch::Phy(word) => (WATCH_PHY, u32::from(word), 0, 0),
         };
         raw::Watch { kind, offset, address, octets }
     }

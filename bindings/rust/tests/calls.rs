@@ -214,6 +214,13 @@ fn is_of_a_profile() {
     // word 2 of PHY 1
     m.write(MDIC, 0x0822_0000).unwrap();
     assert_eq!(m.look(MDIC), Ok(0x1822_0141));
+    // 1234 in the PHY's word 9, which was 0E00 at power on; with a link word 17 has bit 10 too
+    assert_eq!(m.last_change(Watch::Phy(9)), Ok(None));
+    m.write(MDIC, 0x0429_1234).unwrap();
+    m.set_link(true).unwrap();
+    assert_eq!(m.last_change(Watch::Phy(9)).unwrap().map(|it| (it.back, it.value)), Some((2, 0x0E00)));
+    assert_eq!(m.last_change(Watch::Phy(17)).unwrap().map(|it| (it.back, it.value)), Some((1, 0xA800)));
+    assert_eq!(m.last_change(Watch::Phy(32)), Err(Refusal::NoRegister));
     let mut first = Machine::of(Profile::Table, 0, 4_096, 1 << 20, MAC).unwrap();
     assert_eq!((first.profile(), first.read(EECD)), (Profile::Table, Err(Refusal::NoRegister)));
     assert_eq!((made().profile(), Profile::default()), (Profile::Table, Profile::Table));

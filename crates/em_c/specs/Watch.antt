@@ -26,14 +26,17 @@ IsWatch w s watch.Line = w.kind ≡ 3
 IsWatch w s watch.Link = w.kind ≡ 4
 IsWatch w s watch.Frames = w.kind ≡ 5
 IsWatch w s watch.Sent = w.kind ≡ 6
+IsWatch w s (watch.Phy word) = (w.kind ≡ 7) × (w.offset ≡ word.number)
 
--- an offset without a register, no octet or more than 16, octets that leave guest memory, or a kind that there is not
+-- an offset without a register, a word that the PHY has not, no octet or more than 16, octets that leave guest memory,
+-- or a kind that there is not
 abbrev pub IsNoWatch : EmWatch → State → Refused → Type 0
-IsNoWatch w s NoRegister = (w.kind ≡ 1) × (reg_of s.profile w.offset ≡ None)
+IsNoWatch w s NoRegister =
+    ((w.kind ≡ 1) × (reg_of s.profile w.offset ≡ None)) ⊎ ((w.kind ≡ 7) × (31 < w.offset))
 IsNoWatch w s Length = (w.kind ≡ 2) × ((w.octets ≡ 0) ⊎ (16 < w.octets))
 IsNoWatch w s Range =
     (w.kind ≡ 2) × (0 < w.octets) × (w.octets ≤ 16) × IsTrue (leaves s.base s.memory w.address w.octets)
-IsNoWatch w s NoWatch = (w.kind ≡ 0) ⊎ (6 < w.kind)
+IsNoWatch w s NoWatch = (w.kind ≡ 0) ⊎ (7 < w.kind)
 IsNoWatch w s refused = ⊥
 
 -- what was seen, as a number

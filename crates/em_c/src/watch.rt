@@ -7,20 +7,24 @@ use crate::handle::EmMachine;
 use crate::memory::leaves;
 use crate::refused::{DONE, Refused};
 use em_journal::Machine;
+use em_phy::PhyWord;
 use em_regs::Reg;
 use em_watch::{Change, MemoryRange, Sight, Watch};
 
 /// How many octets are watched at most.
 pub const MOST_OCTETS: usize = 16;
 
+/// The number of the PHY's last word.
+const LAST_PHY_WORD: u32 = 31;
+
 /// What is watched.
 #[repr(C)]
 #[derive(Clone, Copy, PartialEq, Eq, Debug)]
 pub struct EmWatch {
     /// 1: a register; 2: octets of guest memory; 3: the interrupt line; 4: the link; 5: how many frames lie in the
-    /// FIFO; 6: how many frames were sent.
+    /// FIFO; 6: how many frames were sent; 7: a word of the PHY, as a read of it by MDIC gives it.
     pub kind: u32,
-    /// Of a register, its offset.
+    /// Of a register, its offset; of a word of the PHY, its number.
     pub offset: u32,
     /// Of octets, where they begin.
     pub address: u64,
@@ -84,7 +88,22 @@ fn watch_of(watch: EmWatch, machine: &Machine) -> Result<Watch, Refused>
         4 => Ok(Watch::Link),
         5 => Ok(Watch::Frames),
         6 => Ok(Watch::Sent),
+        7 => phy_watch(watch.offset),
         _ => Err(Refused::NoWatch),
+    }
+}
+
+/// The word of the PHY of a number.
+fn phy_watch(number: u32) -> Result<Watch, Refused>
+    ensures ok { IfOk result (λ watch. (word : PhyWord) × (watch ≡ Watch.Phy word) × (number ≡ word.number)) }
+    ensures err { IfErr result (λ refused. (refused ≡ Refused.NoRegister) × (31 < number)) }
+{
+    if number > LAST_PHY_WORD {
+        return Err(Refused::NoRegister);
+    }
+    match PhyWord::new(number as u8) {
+        Some(word) => Ok(Watch::Phy(word)),
+        None => unreachable!(),
     }
 }
 

@@ -3,7 +3,9 @@ use Rattle.std.specs.Prelude.{◌≡◌, ℕ, if◌then◌else◌, List, [], ◌
 use Rattle.em_text.specs.Writer.{hex_text, value_digits}
 use Rattle.em_names.specs.Names.{name_of}
 use Rattle.em_names.specs.Bits.{bits_text}
+use Rattle.em_names.specs.Phy.{phy_name}
 use Rattle.em_inspect.specs.AddressText.{address_text}
+use Rattle.em_looks.specs.Numbers.{number_text}
 use Rattle.em_watch.specs.declared.watch.Watch.{Watch}
 use Rattle.em_watch.specs.declared.watch.Watch.TheVariants as watch
 use Rattle.em_watch.specs.declared.watch.Sight.{Sight}
@@ -21,8 +23,10 @@ IsWatch typed.line w = w ≡ watch.Line
 IsWatch typed.link w = w ≡ watch.Link
 IsWatch typed.frames w = w ≡ watch.Frames
 IsWatch typed.sent w = w ≡ watch.Sent
+IsWatch (typed.phy k) (watch.Phy word) = word.number ≡ k
+IsWatch (typed.phy k) _ = ⊥
 
--- the name of a watched thing: of octets their address
+-- the name of a watched thing: of octets their address, of a word of the PHY its number and its name
 abbrev pub watch_text : Watch → List ℕ
 watch_text (watch.Register reg) = name_of reg
 watch_text (watch.Octets range) = address_text range.addr
@@ -30,6 +34,7 @@ watch_text watch.Line = codes "line"
 watch_text watch.Link = codes "link"
 watch_text watch.Frames = codes "frames"
 watch_text watch.Sent = codes "sent"
+watch_text (watch.Phy word) = number_text (codes "PHY ") word.number (phy_name word.number)
 
 -- a value: of a register with its bits
 abbrev pub value_text : Watch → ℕ → List ℕ

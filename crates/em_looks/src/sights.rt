@@ -7,7 +7,7 @@ ghost use Rattle.em_prompt.specs.Watch.{plain as plain_watch};
 
 use crate::numbers::write_number;
 use em_inspect::write_address;
-use em_names::{write_bits, write_name};
+use em_names::{phy_name, write_bits, write_name};
 use em_prompt::WatchedLen;
 use em_text::{WriteFailed, write_octets, write_whole};
 use em_watch::{Difference, MOST_WATCHED, MemoryRange, Sight, Watch};
@@ -24,6 +24,7 @@ pub fn watch_of(typed: em_prompt::Watch) -> Watch
         em_prompt::Watch::Link => Watch::Link,
         em_prompt::Watch::Frames => Watch::Frames,
         em_prompt::Watch::Sent => Watch::Sent,
+        em_prompt::Watch::Phy(word) => Watch::Phy(word),
     }
 }
 
@@ -38,7 +39,7 @@ fn range_of(addr: u64, len: WatchedLen) -> MemoryRange
     }
 }
 
-/// Writes the name of a watched thing: of octets their address.
+/// Writes the name of a watched thing: of octets their address, of a word of the PHY its number and its name.
 pub fn write_watch<W: Write>(writer: &mut W, watch: Watch) -> Result<(), WriteFailed>
     ensures writes { Writes (W.contents writer.old) (W.contents writer.new) result (watch_text watch) }
 {
@@ -49,6 +50,12 @@ pub fn write_watch<W: Write>(writer: &mut W, watch: Watch) -> Result<(), WriteFa
         Watch::Link => write_whole(writer, b"link"),
         Watch::Frames => write_whole(writer, b"frames"),
         Watch::Sent => write_whole(writer, b"sent"),
+        Watch::Phy(word) => write_number(
+            writer,
+            b"PHY ",
+            u64::from(word.number()),
+            phy_name(word).as_bytes(),
+        ),
     }
 }
 

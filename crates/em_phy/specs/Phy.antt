@@ -2,6 +2,7 @@
 -- REGADD 20:16, PHYADD 25:21, OP 27:26 (01 writes, 10 reads), R 28, I 29, E 30. This project's profile: a command is done
 -- at once, and another OP does nothing.
 use Rattle.std.specs.Prelude.{Bool, ◌==◌, ◌||◌, ◌&&◌, if◌then◌else◌, ℕ, ◌+◌, ◌*◌, ◌/◌, ◌%◌, ◌^◌, List, [], ◌∷◌, bit_and, bit_or, slice_index, set}
+use Rattle.std.specs.Prelude.{◌<◌, length}
 
 pub record State : Type 0 where
   -- MDIC as it is read
@@ -27,9 +28,12 @@ is_read_only k = k == 1 || k == 2 || k == 3 || k == 17
 abbrev pub link_bits : ℕ → ℕ
 link_bits k = if k == 1 then 0x0024 else if k == 17 then 0x0400 else 0
 
--- a word as it is read
+-- a word as it is read, by what it is without a link
+abbrev pub with_link : Bool → ℕ → ℕ → ℕ
+with_link link k word = if link then bit_or word (link_bits k) else word
+
 abbrev pub read_word : List ℕ → Bool → ℕ → ℕ
-read_word words link k = if link then bit_or (slice_index words k) (link_bits k) else slice_index words k
+read_word words link k = with_link link k (slice_index words k)
 
 -- what is stored of a word: in control (0) reset (15) and restart of negotiation (9) clear themselves, and no other word
 -- changes with them (this project's profile)
@@ -80,8 +84,13 @@ pub record Old : Type 0 where
   pub reg : ℕ
   pub old : ℕ
 
+-- it names one of the words
 abbrev pub Fits : State → Old → Type 0
-Fits s u = Unit {0}
+Fits s u = u.reg < length s.words
 
 abbrev pub undone : State → Old → State
 undone s u = record { mdic = u.mdic; words = set s.words u.reg u.old }
+
+-- what a word was, where it is so much now
+abbrev pub word_before : Old → ℕ → ℕ → ℕ
+word_before u k now = if k == u.reg then u.old else now

@@ -3,5 +3,7 @@
 
 pub mod laws;
 mod phy;
+mod word;
 
-pub use phy::{Phy, PhyUndo, WORDS, asks_for_interrupt};
+pub use phy::{Phy, PhyUndo, WORDS, asks_for_interrupt, word_as_read};
+pub use word::PhyWord;

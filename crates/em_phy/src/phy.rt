@@ -1,6 +1,7 @@
 //! The words of the PHY, and MDIC.
 ghost use Rattle.std.specs.Prelude.{◌≡◌, ◌<◌, ◌/◌, ◌%◌, ◌^◌};
 ghost use Rattle.em_phy.specs.Phy.{after_write, answer, asks_for_interrupt, is_read_only, link_bits, put_word, read_word, start, stored, undone};
+ghost use Rattle.em_phy.specs.Phy.{Fits, with_link, word_before};
 
 use em_mem::Reversible;
 use std::marker::Model;
@@ -102,6 +103,13 @@ impl PhyUndo {
     {
         self.mdic
     }
+
+    /// What a word was without a link, where it is `now`.
+    pub fn word_before(&self, reg: u8, now: u16) -> u16
+        ensures { result ≡ word_before self.now reg now }
+    {
+        if reg == self.reg { self.old } else { now }
+    }
 }
 
 impl Phy {
@@ -158,6 +166,7 @@ impl Phy {
     /// A write of MDIC, with the link up or down.
     pub fn write(&mut self, link: bool, value: u32) -> PhyUndo
         ensures state { self.new ≡ after_write self.old link value }
+        ensures fits { Fits self.new result }
         ensures undo { undone self.new result ≡ self.old }
     {
         let reg = register_address(value);
@@ -200,8 +209,7 @@ impl Phy {
         requires { reg < 32 }
         ensures { result ≡ read_word self.now.words link reg }
     {
-        let word = self.words[usize::from(reg)];
-        if link { word | link_bits(reg) } else { word }
+        word_as_read(link, reg, self.words[usize::from(reg)])
     }
 
     /// Stores a word, or the bits of it that are kept.
@@ -234,6 +242,13 @@ impl Reversible for Phy {
         self.mdic = undo.mdic;
         self.words[usize::from(undo.reg)] = undo.old;
     }
+}
+
+/// A word as it is read with the link up or down, by what it is without a link.
+pub fn word_as_read(link: bool, reg: u8, word: u16) -> u16
+    ensures { result ≡ with_link link reg word }
+{
+    if link { word | link_bits(reg) } else { word }
 }
 
 /// REGADD.

@@ -9,7 +9,7 @@ use Rattle.em_prompt.specs.Command.{commands, help_of}
 
 -- what stands behind all of them
 abbrev pub words_of_help : List ℕ
-words_of_help = codes "WATCH is a register, ADDR LEN, line, link, frames or sent.\n"
+words_of_help = codes "WATCH is a register, ADDR LEN, line, link, frames, sent or PHY N.\n"
 
 abbrev pub line_of : Command → List ℕ
 line_of command = help_of command ++ codes "\n"

@@ -14,6 +14,7 @@ use Rattle.em_prompt.specs.declared.kind.Kind.TheVariants.{Register, Known, Valu
 use Rattle.em_prompt.specs.declared.kind.Kind.TheVariants.{File, Number as Numbers, Choice}
 use Rattle.em_prompt.specs.declared.number.Number.{Number}
 use Rattle.em_prompt.specs.declared.number.Number.TheVariants.{Peeked, Watched, Packets, Count, Line as LineNumber, Event, Index}
+use Rattle.em_prompt.specs.declared.number.Number.TheVariants.{Word}
 use Rattle.em_regs.specs.declared.profile.Profile.{Profile}
 use Rattle.em_regs.specs.declared.reg.Reg.{Reg}
 use Rattle.em_prompt.specs.declared.says.Way.{Way}
@@ -36,7 +37,7 @@ use Rattle.em_prompt.specs.Value.{Offset, address_in, command_in, data_in, ether
 use Rattle.em_prompt.specs.Value.{last_line_in, number_in, offset_in, shown_address_in, side_in, switch_in, value_in, watch_in, way_in}
 use Rattle.em_prompt.specs.Value.{which_in, within}
 use Rattle.em_prompt.specs.Watch as watched
-use Rattle.em_prompt.specs.Watch.{Watch}
+use Rattle.em_prompt.specs.Watch.{Watch, is_phy}
 use Rattle.em_prompt.specs.Word.{hex_address_in}
 
 -- what the code says, without where words lie in memory
@@ -148,7 +149,11 @@ number_if number (word ∷ words) = with (number_in number word) (λ n. Ok (Some
 abbrev pub look_of : Profile → List (List ℕ) → Result Typed Fault
 look_of profile words = one Known (known_in profile) (λ reg. typed.show (shown.Look reg)) words
 
--- WATCH, which begins with a word: ADDR LEN, or that word alone
+-- WATCH, which begins with a word: PHY N, ADDR LEN, or that word alone
+abbrev pub word_at : List (List ℕ) → Result (Watch × List (List ℕ)) Fault
+word_at [] = Err (missing (Numbers Word))
+word_at (word ∷ words) = with (number_in Word word) (λ k. Ok (watched.phy k, words))
+
 abbrev pub octets_at : ℕ → List (List ℕ) → Result (Watch × List (List ℕ)) Fault
 octets_at addr [] = Err (missing (Numbers Watched))
 octets_at addr (word ∷ words) = with (number_in Watched word) (λ len. Ok (watched.octets addr len, words))
@@ -166,7 +171,8 @@ watch_with profile None word words = with (watch_in profile word) (λ watch. Ok 
 watch_with profile (Some addr) word words = octets_at addr words
 
 abbrev pub watch_at : Profile → List ℕ → List (List ℕ) → Result (Watch × List (List ℕ)) Fault
-watch_at profile word words = watch_with profile (watched_address profile word) word words
+watch_at profile word words =
+    if is_phy word then word_at words else watch_with profile (watched_address profile word) word words
 
 -- again, all, or no word
 abbrev pub which_if : List (List ℕ) → Result (Which × List (List ℕ)) Fault

@@ -8,6 +8,7 @@ use Rattle.std.specs.Str.{bytes_eq}
 use Rattle.em_text.specs.Numbers.{decimal_number, octets_of}
 use Rattle.em_text.specs.Writer.{value_digits}
 use Rattle.em_line.specs.Digits.{bare}
+use Rattle.em_phy.specs.declared.word.PhyWord.{PhyWord}
 use Rattle.em_regs.specs.declared.profile.Profile.{Profile}
 use Rattle.em_regs.specs.declared.reg.Reg.{Reg}
 use Rattle.em_regs.specs.Table.{offset_of, reg_of}
@@ -50,6 +51,11 @@ read_with (Err fault) words = Err (plain fault)
 abbrev pub len_so : Result WatchedLen LentFault → Result ℕ Fault
 len_so (Ok len) = Ok len.octets
 len_so (Err fault) = Err (plain fault)
+
+-- of a word of the PHY, its number alone
+abbrev pub phy_word_so : Result PhyWord LentFault → Result ℕ Fault
+phy_word_so (Ok word) = Ok word.number
+phy_word_so (Err fault) = Err (plain fault)
 
 abbrev pub watch_so : Result Coded LentFault → Result Watch Fault
 watch_so (Ok w) = Ok (watch.plain w)

@@ -1,5 +1,5 @@
 -- What is watched, as words say it.
-use Rattle.std.specs.Prelude.{ℕ, List, codes, if◌then◌else◌, Option, Some}
+use Rattle.std.specs.Prelude.{ℕ, Bool, ◌||◌, List, codes, if◌then◌else◌, Option, Some}
 use Rattle.std.specs.Option.{option_map}
 use Rattle.std.specs.Str.{bytes_eq}
 use Rattle.em_regs.specs.declared.profile.Profile.{Profile}
@@ -20,6 +20,8 @@ pub data Watch : Type 0 where
   frames : Watch
   -- how many frames were sent
   sent : Watch
+  -- a word of the PHY
+  phy : ℕ → Watch
 
 -- what the code watches, with the number of octets alone
 abbrev pub plain : Coded → Watch
@@ -29,6 +31,11 @@ plain coded.Line = line
 plain coded.Link = link
 plain coded.Frames = frames
 plain coded.Sent = sent
+plain (coded.Phy word) = phy word.number
+
+-- the word PHY, behind which the number of one of its words stands
+abbrev pub is_phy : List ℕ → Bool
+is_phy word = bytes_eq word (codes "PHY") || bytes_eq word (codes "phy")
 
 -- what one word says; a register of a profile by its name
 abbrev pub watched : Profile → List ℕ → Option Watch

@@ -9,7 +9,7 @@ use em_text::{WriteFailed, write_pieces, write_whole};
 use std::io::Write;
 
 /// What stands behind all of them.
-const WORDS: &[u8] = b"WATCH is a register, ADDR LEN, line, link, frames or sent.\n";
+const WORDS: &[u8] = b"WATCH is a register, ADDR LEN, line, link, frames, sent or PHY N.\n";
 
 /// Writes a line for each command.
 pub fn write_whole_help<W: Write>(writer: &mut W) -> Result<(), WriteFailed>

@@ -74,6 +74,7 @@ impl Kind {
             Kind::Number(Number::Line) => "a line",
             Kind::Number(Number::Event) => "an event",
             Kind::Number(Number::Index) => "I",
+            Kind::Number(Number::Word) => "a word of the PHY",
             Kind::Choice(Choice::Way) => "up or down",
             Kind::Choice(Choice::Side) => "rx or tx",
             Kind::Choice(Choice::More) => "again or all",
@@ -102,6 +103,7 @@ impl Kind {
             Kind::Number(Number::Line) => " is wanted, of 1 to 9999999",
             Kind::Number(Number::Event) => " is wanted, of 0 to 9999999",
             Kind::Number(Number::Index) => " is 0 to 9999999",
+            Kind::Number(Number::Word) => " is wanted, of 0 to 31",
             _ => " is wanted",
         }
     }

@@ -25,6 +25,8 @@ pub enum Number {
     Event,
     /// One of several, by its place from 0 on.
     Index,
+    /// A word of the PHY: 0 to 31.
+    Word,
 }
 
 impl Number {
@@ -33,7 +35,7 @@ impl Number {
         ensures { result ≡ least self }
     {
         match self {
-            Number::Packets | Number::Event | Number::Index => 0,
+            Number::Packets | Number::Event | Number::Index | Number::Word => 0,
             Number::Peeked | Number::Watched | Number::Count | Number::Line => 1,
         }
     }
@@ -48,6 +50,7 @@ impl Number {
             Number::Packets => 1_024,
             Number::Count => 65_536,
             Number::Line | Number::Event | Number::Index => 9_999_999,
+            Number::Word => 31,
         }
     }
 

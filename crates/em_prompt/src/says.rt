@@ -22,9 +22,9 @@ use crate::told::without_blanks;
 use crate::typed::{Lines, Shown, Typed, Until, Which};
 use crate::value::{
     address_in, command_in, data_in, ethernet_in, frame_len_in, known_in, last_line_in, offset_in,
-    shown_address_in, side_in, switch_in, value_in, watch_in, way_in, which_in,
+    phy_word_in, shown_address_in, side_in, switch_in, value_in, watch_in, way_in, which_in,
 };
-use crate::watch::Watch;
+use crate::watch::{Watch, is_phy};
 use crate::watched_len::WatchedLen;
 use crate::word::hex_address_in;
 use crate::words::{alone, next};
@@ -274,10 +274,14 @@ fn who_of<'a>(profile: Profile, mut words: Words<'a>) -> Result<Typed<'a>, Fault
     alone(Typed::Who(watch, which), words)
 }
 
-/// WATCH, which begins with a word: ADDR LEN, or that word alone.
+/// WATCH, which begins with a word: PHY N, ADDR LEN, or that word alone.
 fn watch_at<'a>(profile: Profile, word: &'a [u8], words: &mut Words<'a>) -> Result<Watch, Fault<'a>>
     ensures { watch_read_with result (words_of words.new.0.now) ≡ watch_at profile word.now (words_of words.old.0.now) }
 {
+    if is_phy(word) {
+        let number = phy_word_in(next(words, Kind::Number(Number::Word))?)?;
+        return Ok(Watch::Phy(number));
+    }
     let Some(address) = watched_address(profile, word) else {
         return watch_in(profile, word);
     };

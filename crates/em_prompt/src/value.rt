@@ -4,7 +4,8 @@ ghost use Rattle.em_prompt.specs.Fault.{plain as plain_fault};
 ghost use Rattle.em_prompt.specs.Kept.{kept_text};
 ghost use Rattle.em_prompt.specs.Value.{read_so, kept_so, offset_so, address_in, command_in, data_fault, data_in};
 ghost use Rattle.em_prompt.specs.Value.{ethernet_in, frame_len_in, known_in, last_line_in, offset_in, shown_address_in, side_in, switch_in};
-ghost use Rattle.em_prompt.specs.Value.{value_in, watch_in, watch_so, way_in, which_in};
+ghost use Rattle.em_prompt.specs.Value.{number_in, phy_word_so, value_in, watch_in, watch_so, way_in, which_in};
+ghost use Rattle.em_prompt.specs.declared.number.Number.TheVariants.{Word};
 ghost use Rattle.em_prompt.specs.Word.{data_digits};
 ghost use Rattle.std.specs.List.{list_all};
 ghost use Rattle.std.specs.Char.{is_ascii_hexdigit};
@@ -22,6 +23,7 @@ use crate::word::{
     ADDRESS_DIGITS, address_digits, data_len, hex_address_in, hex_number_in, is_address, is_data,
 };
 use em_line::bare;
+use em_phy::PhyWord;
 use em_regs::{Profile, Reg};
 use em_text::{decimal_number, is_name};
 
@@ -172,6 +174,17 @@ pub(crate) fn last_line_in<'a>(line: u32, word: &'a [u8]) -> Result<u32, Fault<'
     match decimal_number(word) {
         Some(last) if line <= last && last <= Number::Line.most() => Ok(last),
         _ => Err(Fault::No(Kind::LastLine)),
+    }
+}
+
+/// The word of the PHY whose number a word writes.
+pub(crate) fn phy_word_in(word: &[u8]) -> Result<PhyWord, Fault<'_>>
+    ensures { phy_word_so result ≡ number_in Word word.now }
+{
+    let number = Number::Word.of(word)?;
+    match PhyWord::new(number as u8) {
+        Some(word) => Ok(word),
+        None => unreachable!(),
     }
 }
 

@@ -1,10 +1,11 @@
 //! What is watched, as words say it.
 ghost use Rattle.std.specs.Prelude.{◌≡◌};
 ghost use Rattle.std.specs.Option.{option_map};
-ghost use Rattle.em_prompt.specs.Watch.{plain, watched};
+ghost use Rattle.em_prompt.specs.Watch.{is_phy, plain, watched};
 
 use crate::register::named;
 use crate::watched_len::WatchedLen;
+use em_phy::PhyWord;
 use em_regs::{Profile, Reg};
 use em_text::is_name;
 
@@ -22,6 +23,15 @@ pub enum Watch {
     Frames,
     /// How many frames were sent.
     Sent,
+    /// A word of the PHY.
+    Phy(PhyWord),
+}
+
+/// Whether a word is PHY, behind which the number of one of its words stands.
+pub(crate) fn is_phy(word: &[u8]) -> bool
+    ensures { result ≡ is_phy word.now }
+{
+    is_name(word, b"PHY") || is_name(word, b"phy")
 }
 
 /// What one word says is watched; a register of a profile by its name.

@@ -16,6 +16,7 @@ use Rattle.em_regs.specs.Table.{IsReg, row_of, offset_of}
 use Rattle.em_regs.specs.RegFile as registers
 use Rattle.em_latch.specs.Latches as latches
 use Rattle.em_latch.specs.Latches.{Growth}
+use Rattle.em_phy.specs.Phy as phy
 use Rattle.em_rx.specs.Before as rx
 use Rattle.em_tx.specs.Before as tx
 use Rattle.em_tx.specs.Needs as tx_needs
@@ -101,6 +102,11 @@ pins_before effect now = now
 abbrev pub mdic_before : Changed → ℕ → ℕ
 mdic_before (Phy old) now = old.mdic
 mdic_before effect now = now
+
+-- of a word of the PHY, without a link
+abbrev pub phy_word_before : Changed → ℕ → ℕ → ℕ
+phy_word_before (Phy old) k now = phy.word_before old k now
+phy_word_before effect k now = now
 
 -- of any register, by the kind of its row
 abbrev pub register_before_by : Kind → Undo → Reg → ℕ → ℕ

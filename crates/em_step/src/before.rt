@@ -1,7 +1,8 @@
 //! What a record tells of the state before its event, without being put back: who changed something last is found by
 //! asking each record of a journal, the newest first. A record that has nothing to do with the question takes a few
 //! instructions.
-ghost use Rattle.std.specs.Prelude.{◌≡◌, ◌≤◌, IfSome, IsSome, IsTrue, OnOk, [], length, min, true, unwrap_or};
+ghost use Rattle.std.specs.Prelude.{◌≡◌, ◌≤◌, IfSome, IsSome, IsTrue, OnOk, [], length, min, slice_index, true};
+ghost use Rattle.std.specs.Prelude.{unwrap_or};
 ghost use Rattle.em_regs.specs.Table.{IsReg, offset_of};
 ghost use Rattle.em_regs.specs.RegFile as registers;
 ghost use Rattle.em_regs.specs.RegFile.{IsStored};
@@ -10,13 +11,14 @@ ghost use Rattle.em_step.specs.Access.{gives};
 ghost use Rattle.em_step.specs.Before.{LeavesFrom, LeavesUpTo, PutsBack, PutsBackGathered, PutsBackWindow, TakesOffWire};
 ghost use Rattle.em_step.specs.Before.{WroteOnly, frames_before, gathered_before, has_sent, written};
 ghost use Rattle.em_step.specs.Before.{latched_before, link_before, next_octet, octets_before, register_before};
-ghost use Rattle.em_step.specs.Before.{mdic_before, pins_before, status_before, stored_before};
+ghost use Rattle.em_step.specs.Before.{mdic_before, phy_word_before, pins_before, status_before, stored_before};
 ghost use Rattle.em_step.specs.Undo.{IsPlaced, held, past_of, word};
 
 use crate::packed::{address_in, piece_of, place_in};
 use crate::undo::{Effect, HEAD_OCTETS, Record};
 use bitflags::Flags;
 use em_mem::{OldOctets, Range, Saved, lay_both_over, next_in};
+use em_phy::PhyWord;
 use em_regs::{Kind, Reg, RegUndo, Status};
 use std::alloc::AllocError;
 use std::marker::Model;
@@ -130,6 +132,15 @@ impl<'a> Past<'a> {
         ensures before { PutsBack self.now (λ s. s.link) now result }
     {
         self.link_told(now)
+    }
+
+    /// What a word of the PHY was before the event, without a link, where it is `now` after it.
+    #[inline(always)]
+    pub fn phy_word_before(&self, word: PhyWord, now: u16) -> u16
+        ensures value { result ≡ phy_word_before self.now.effect word.number now }
+        ensures before { PutsBack self.now (λ s. slice_index s.phy.words word.number) now result }
+    {
+        self.phy_word_told(word, now)
     }
 
     /// How many frames lay in the FIFO before the event, where there are `now` after it.
@@ -269,6 +280,17 @@ impl<'a> Past<'a> {
     {
         match &self.record.effect {
             Effect::Phy(old) => old.mdic(),
+            _ => now,
+        }
+    }
+
+    /// What a word of the PHY was, without a link.
+    #[inline(always)]
+    fn phy_word_told(&self, word: PhyWord, now: u16) -> u16
+        ensures { result ≡ phy_word_before self.now.effect word.number now }
+    {
+        match &self.record.effect {
+            Effect::Phy(old) => old.word_before(word.number(), now),
             _ => now,
         }
     }

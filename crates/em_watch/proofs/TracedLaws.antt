@@ -1,7 +1,7 @@
 -- A watched thing, followed back over records.
 use Rattle.std.proofs.Common.{◌≡◌, ℕ, ◌+◌, ◌-◌, ◌≤◌, Bool, true, false, cond, List, [], ◌∷◌, ◌++◌, zero, suc}
 use Rattle.std.proofs.Common.{length, length-append, take, drop, map, refl, sym, ap, ◌∙◌, subst, arith, Some}
-use Rattle.std.specs.Prelude.{◌||◌, ◌&&◌, nat_lt, slice_get, replicate}
+use Rattle.std.specs.Prelude.{◌||◌, ◌&&◌, nat_lt, slice_get, slice_index, replicate}
 use Rattle.std.specs.Option.{option_map}
 use Rattle.std.proofs.Math.Seq.{take-append_seam, drop-append_seam}
 use Rattle.std.proofs.lemmas.Bool.Decides.{nat_tests}
@@ -14,7 +14,8 @@ use Rattle.em_regs.specs.declared.reg.Reg.{Reg}
 use Rattle.em_regs.specs.declared.reg.Reg.TheVariants.{Icr, Ims}
 use Rattle.em_regs.specs.Table.{has_reg, index_of, row_of}
 use Rattle.em_step.specs.Cells.{Cells, shows}
-use Rattle.em_step.specs.State.{State}
+use Rattle.em_phy.specs.declared.word.PhyWord.{PhyWord}
+use Rattle.em_step.specs.State.{State, is_adapter}
 use Rattle.em_step.specs.Undo.{Undo, Fits, undo}
 use Rattle.em_step.specs.Access.{gives}
 use Rattle.em_step.proofs.SizeLaws.{memory_base, memory_size, profile_stays}
@@ -28,7 +29,7 @@ use Rattle.em_watch.specs.Traced.{IsTraceable, IsTraced, TakesBack, OctetsGoBack
 use Rattle.em_watch.specs.declared.range.TheConstants.{MOST_WATCHED}
 use Rattle.em_watch.specs.declared.range.MemoryRange.{MemoryRange}
 use Rattle.em_watch.specs.declared.watch.Watch.{Watch}
-use Rattle.em_watch.specs.declared.watch.Watch.TheVariants.{Register, Octets, Line, Link, Frames, Sent}
+use Rattle.em_watch.specs.declared.watch.Watch.TheVariants.{Register, Octets, Line, Link, Frames, Sent, Phy}
 use Rattle.em_watch.specs.declared.traced.Traced.{Traced}
 use Rattle.em_watch.specs.declared.traced.Traced.TheVariants as traced
 
@@ -45,6 +46,7 @@ shown-traced Line s = refl
 shown-traced Link s = refl
 shown-traced Frames s = refl
 shown-traced Sent s = refl
+shown-traced (Phy word) s = shown_if (is_adapter s.profile) _ _
 
 -- ---- before the event of a record
 
@@ -63,12 +65,28 @@ GoesBack r (traced.Frames count) u =
     (new : ℕ) × (traced.Frames new ≡ u) × PutsBack r (λ s. length s.fifo.frames) count new
 GoesBack r (traced.Sent count) u =
     (new : ℕ) × (traced.Sent new ≡ u) × PutsBack r (λ s. length s.wire) count new
+GoesBack r (traced.Phy word value up) u =
+    (new : ℕ × Bool) × (traced.Phy word new.0 new.1 ≡ u)
+    × PutsBack r (λ s. slice_index s.phy.words word.number) value new.0 × PutsBack r (λ s. s.link) up new.1
 
 register_back : (c : Cells) (r : Undo) (reg : Reg) (u : Traced) (b : Bool) → Fits c r
     → GoesBack r (cond b (traced.Register reg (gives (shows c) reg)) traced.Nothing) u
     → cond b (traced.Register reg (gives (shows (undo c r)) reg)) traced.Nothing ≡ u
 register_back c r reg u true fits goes = ap (traced.Register reg) (goes.2 c fits refl) ∙ goes.1
 register_back c r reg u false fits goes = goes
+
+-- a word of the PHY as it is traced
+abbrev word_of : State → PhyWord → Traced
+word_of s word = traced.Phy word (slice_index s.phy.words word.number) s.link
+
+word_back : (c : Cells) (r : Undo) (word : PhyWord) (u : Traced) (b : Bool) → Fits c r
+    → GoesBack r (cond b (word_of (shows c) word) traced.Nothing) u
+    → cond b (word_of (shows (undo c r)) word) traced.Nothing ≡ u
+word_back c r word u true fits goes =
+    let value = goes.2 c fits refl in
+    let up = goes.3 c fits refl in
+    (λ i. traced.Phy word (value i) (up i)) ∙ goes.1
+word_back c r word u false fits goes = goes
 
 -- octets with what lies behind them
 padded : (c : Cells) (r : Undo) (a n : ℕ) (behind new : List ℕ) → Fits c r → a + n ≤ length (shows c).memory
@@ -128,6 +146,9 @@ back_at Line c r u fits goes =
 back_at Link c r u fits goes = ap traced.Link (goes.2 c fits refl) ∙ goes.1
 back_at Frames c r u fits goes = ap traced.Frames (goes.2 c fits refl) ∙ goes.1
 back_at Sent c r u fits goes = ap traced.Sent (goes.2 c fits refl) ∙ goes.1
+back_at (Phy word) c r u fits goes =
+    ap (λ p. cond (is_adapter p) (word_of (shows (undo c r)) word) traced.Nothing) (profile_stays c r)
+    ∙ word_back c r word u (is_adapter (shows c).profile) fits goes
 
 pub takes_back : (r : Undo) (t u : Traced) → GoesBack r t u → TakesBack r t u
 takes_back r t u goes w c fits same = back_at w c r u fits (subst (λ x. GoesBack r x u) (sym same) goes)
@@ -181,6 +202,11 @@ octets_traceable : (range : MemoryRange) (octets : List ℕ) (b : Bool)
 octets_traceable range octets true = tt
 octets_traceable range octets false = tt
 
+word_traceable : (word : PhyWord) (value : ℕ) (up b : Bool)
+    → IsTraceable (cond b (traced.Phy word value up) traced.Nothing)
+word_traceable word value up true = tt
+word_traceable word value up false = tt
+
 traceable : (w : Watch) (s : State) → IsTraceable (traced w s)
 traceable (Register reg) s =
     traceable_if reg (gives s reg) (nat_lt (index_of reg) (row_of reg).words) (has_reg s.profile reg) refl
@@ -189,6 +215,7 @@ traceable Line s = tt
 traceable Link s = tt
 traceable Frames s = tt
 traceable Sent s = tt
+traceable (Phy word) s = word_traceable word _ s.link (is_adapter s.profile)
 
 pub traceable_now : (w : Watch) (s : State) (t : Traced) → t ≡ traced w s → IsTraceable t
 traceable_now w s t is = subst IsTraceable (sym is) (traceable w s)

@@ -1,11 +1,13 @@
 -- What has to be known of a state to see a watched thing in it, and how a record takes that back.
 use Rattle.std.specs.Prelude.{◌≡◌, ℕ, ◌-◌, if◌then◌else◌, List, ◌++◌, length, take, drop, replicate, map, []}
-use Rattle.std.specs.Prelude.{slice_get, Some}
+use Rattle.std.specs.Prelude.{slice_get, slice_index, Some}
 use Rattle.em_mem.specs.Memory.{leaves, part}
 use Rattle.em_regs.specs.declared.reg.Reg.{Reg}
 use Rattle.em_regs.specs.Table.{IsReg}
 use Rattle.em_latch.specs.Latches.{causes, mask}
-use Rattle.em_step.specs.State.{State}
+use Rattle.em_phy.specs.Phy.{with_link}
+use Rattle.em_phy.specs.declared.word.PhyWord.{PhyWord}
+use Rattle.em_step.specs.State.{State, is_adapter}
 use Rattle.em_step.specs.Access.{gives}
 use Rattle.em_step.specs.Cells.{Cells, shows}
 use Rattle.em_step.specs.Undo.{Undo, Fits, undo}
@@ -20,7 +22,7 @@ use Rattle.em_watch.specs.declared.watch.Watch.TheVariants as watch
 use Rattle.em_watch.specs.declared.watch.Sight.{Sight}
 use Rattle.em_watch.specs.declared.watch.Sight.TheVariants as sight
 use Rattle.em_watch.specs.declared.traced.Traced.{Traced}
-use Rattle.em_watch.specs.declared.traced.Traced.TheVariants.{Nothing, Register, Octets, Line, Link, Frames, Sent}
+use Rattle.em_watch.specs.declared.traced.Traced.TheVariants.{Nothing, Register, Octets, Line, Link, Frames, Sent, Phy}
 
 abbrev pub traced_register : State → Reg → Traced
 traced_register s reg = if is_there s reg then Register reg (gives s reg) else Nothing
@@ -30,6 +32,11 @@ traced_octets base memory range =
     if leaves base memory range.addr range.len then Nothing
     else Octets range (part memory range.addr range.len ++ replicate (MOST_WATCHED - range.len) 0)
 
+-- of a word of the PHY: what it is without a link, and whether there is one
+abbrev pub traced_word : State → PhyWord → Traced
+traced_word s word =
+    if is_adapter s.profile then Phy word (slice_index s.phy.words word.number) s.link else Nothing
+
 -- in a state
 abbrev pub traced : Watch → State → Traced
 traced (watch.Register reg) s = traced_register s reg
@@ -38,6 +45,7 @@ traced watch.Line s = Line (causes s.latches) (mask s.latches)
 traced watch.Link s = Link s.link
 traced watch.Frames s = Frames (length s.fifo.frames)
 traced watch.Sent s = Sent (length s.wire)
+traced (watch.Phy word) s = traced_word s word
 
 -- what is seen
 abbrev pub shown : Traced → Sight
@@ -48,6 +56,7 @@ shown (Line causes mask) = sight.Line (is_asserted causes mask)
 shown (Link up) = sight.Link up
 shown (Frames count) = sight.Count count
 shown (Sent count) = sight.Count count
+shown (Phy word value up) = sight.Value (with_link up word.number value)
 
 -- the octets of a range, with zeros behind them
 abbrev pub IsOctets : Traced → Type 0

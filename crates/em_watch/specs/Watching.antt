@@ -5,7 +5,8 @@ use Rattle.em_mem.specs.Memory.{leaves, part}
 use Rattle.em_regs.specs.declared.reg.Reg.{Reg}
 use Rattle.em_regs.specs.Table.{has_reg, index_of, row_of}
 use Rattle.em_latch.specs.Latches.{causes, mask}
-use Rattle.em_step.specs.State.{State}
+use Rattle.em_phy.specs.Phy.{read_word}
+use Rattle.em_step.specs.State.{State, is_adapter}
 use Rattle.em_step.specs.Access.{gives}
 use Rattle.em_journal.specs.View.{View, states}
 use Rattle.em_watch.specs.declared.range.TheConstants.{MOST_WATCHED}
@@ -32,6 +33,10 @@ octets_sight base memory a n =
 abbrev pub is_asserted : ℕ → ℕ → Bool
 is_asserted causes mask = not (bit_and causes mask == 0)
 
+-- of a word of the PHY, if the adapter has MDIC: what a read by it gives
+abbrev pub word_sight : State → ℕ → Sight
+word_sight s k = if is_adapter s.profile then Value (read_word s.phy.words s.link k) else Nothing
+
 -- what is seen in a state
 abbrev pub sight : Watch → State → Sight
 sight (watch.Register reg) s = register_sight s reg
@@ -40,6 +45,7 @@ sight watch.Line s = Line (is_asserted (causes s.latches) (mask s.latches))
 sight watch.Link s = Link s.link
 sight watch.Frames s = Count (length s.fifo.frames)
 sight watch.Sent s = Count (length s.wire)
+sight (watch.Phy word) s = word_sight s word.number
 
 -- what is seen in the present state and in those before it
 abbrev pub sights : Watch → View → List Sight

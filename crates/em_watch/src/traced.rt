@@ -4,12 +4,13 @@ ghost use Rattle.em_regs.specs.Table.{IsRegOf};
 ghost use Rattle.em_step.specs.Access.{gives};
 ghost use Rattle.em_step.specs.Before.{PutsBack};
 ghost use Rattle.em_watch.specs.Traced.{traced, traced_register, traced_octets, shown, IsTraceable};
-ghost use Rattle.em_watch.specs.Traced.{IsOctets, octets_of, TakesBack, OctetsGoBack};
+ghost use Rattle.em_watch.specs.Traced.{IsOctets, octets_of, TakesBack, OctetsGoBack, traced_word};
 
 use crate::range::{MOST_WATCHED, MemoryRange};
 use crate::watch::{Sight, Watch};
 use em_journal::Machine;
-use em_regs::Reg;
+use em_phy::{PhyWord, word_as_read};
+use em_regs::{Profile, Reg};
 use em_step::Past;
 
 /// What has to be known of a state to see a watched thing in it, and in those before it.
@@ -29,6 +30,8 @@ pub(crate) enum Traced {
     Frames(usize),
     /// How many frames were sent.
     Sent(usize),
+    /// A word of the PHY, what it is without a link, and whether there is one.
+    Phy(PhyWord, u16, bool),
 }
 
 impl Traced {
@@ -43,6 +46,7 @@ impl Traced {
             Watch::Link => Traced::Link(machine.link()),
             Watch::Frames => Traced::Frames(machine.frames()),
             Watch::Sent => Traced::Sent(machine.wire_len()),
+            Watch::Phy(word) => traced_word(machine, word),
         }
     }
 
@@ -58,6 +62,9 @@ impl Traced {
             Traced::Line(causes, mask) => Sight::Line(causes & mask != 0),
             Traced::Link(up) => Sight::Link(up),
             Traced::Frames(count) | Traced::Sent(count) => Sight::Count(count),
+            Traced::Phy(word, value, up) => {
+                Sight::Value(u32::from(word_as_read(up, word.number(), value)))
+            }
         }
     }
 
@@ -93,6 +100,11 @@ impl Traced {
             Traced::Link(up) => Traced::Link(past.link_before(up)),
             Traced::Frames(count) => Traced::Frames(past.frames_before(count)),
             Traced::Sent(count) => Traced::Sent(past.sent_before(count)),
+            Traced::Phy(word, value, up) => Traced::Phy(
+                word,
+                past.phy_word_before(word, value),
+                past.link_before(up),
+            ),
         }
     }
 }
@@ -125,6 +137,18 @@ fn traced_octets(machine: &Machine, range: MemoryRange) -> Traced
     match machine.peek(range.addr(), &mut octets[..range.len()]) {
         Ok(()) => Traced::Octets(range, octets),
         Err(_) => Traced::Nothing,
+    }
+}
+
+fn traced_word(machine: &Machine, word: PhyWord) -> Traced
+    ensures { result ≡ traced_word machine.now.present word }
+{
+    match machine.profile() {
+        Profile::Table => Traced::Nothing,
+        Profile::Adapter => {
+            let words = machine.adapter().phy().words();
+            Traced::Phy(word, words[usize::from(word.number())], machine.link())
+        }
     }
 }
 

@@ -1,6 +1,7 @@
 //! What is watched, and what is seen of it.
 
 use crate::range::{MOST_WATCHED, MemoryRange};
+use em_phy::PhyWord;
 use em_regs::Reg;
 
 /// What is watched.
@@ -18,14 +19,16 @@ pub enum Watch {
     Frames,
     /// How many frames were sent.
     Sent,
+    /// A word of the PHY, as a read of it by MDIC gives it.
+    Phy(PhyWord),
 }
 
 /// What is seen of it in one state.
 #[derive(Clone, Copy, PartialEq, Eq, Debug)]
 pub enum Sight {
-    /// The octets leave guest memory, or the machine's profile has no such register.
+    /// The octets leave guest memory, or the machine's profile has no such register, or no PHY.
     Nothing,
-    /// What a read of the register would give.
+    /// What a read of the register would give, or of the word by MDIC.
     Value(u32),
     /// The octets, and zeros behind them.
     Octets([u8; MOST_WATCHED]),
