@@ -75,7 +75,7 @@ impl Tally {
             return false;
         };
         match wanted_value(debugger.line_expects(differing.line), here) {
-            Some(wanted) => is_known(self.causes, reg, wanted, here),
+            Some(wanted) => is_known(debugger.profile(), self.causes, reg, wanted, here),
             None => false,
         }
     }

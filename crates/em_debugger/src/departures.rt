@@ -15,6 +15,8 @@ fn departure(reg: Reg) -> &'static [u8]
         Reg::Ctrl | Reg::Ledctl | Reg::Pba | Reg::Vet => b"after a reset it is 0 here",
         Reg::Status => b"FD, LU and SPEED alone are told here, and link lines alone set LU",
         Reg::Eerd => b"here the EEPROM holds the address and the sum alone, and answers at once",
+        Reg::Eecd => b"QEMU grants without a request, and has other words in its EEPROM",
+        Reg::Mdic => b"here a link is negotiated at once; QEMU takes half a second",
         Reg::CtrlExt
         | Reg::Fcal
         | Reg::Fcah

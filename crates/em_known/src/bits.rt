@@ -1,32 +1,33 @@
 //! The bits of a register in which an answer may differ for a known cause.
 ghost use Rattle.std.specs.Prelude.{◌≡◌};
-ghost use Rattle.em_known.specs.Bits.{is_known, is_unheld, known_bits, unless, when};
+ghost use Rattle.em_known.specs.Bits.{in_first, is_known, is_unheld, known_bits, of_pins, unless, when};
 
 use crate::causes::Causes;
-use em_regs::Reg;
+use em_regs::{Profile, Reg};
 
 /// All bits of a register.
 const ALL: u32 = 0xFFFF_FFFF;
 
 /// Whether a read of a register that gave `here`, where another device gave `wanted`, differs for a known cause: it differs in
 /// no other bits than those.
-pub fn is_known(causes: Causes, reg: Reg, wanted: u32, here: u32) -> bool
-    ensures { result ≡ is_known causes reg wanted here }
+pub fn is_known(profile: Profile, causes: Causes, reg: Reg, wanted: u32, here: u32) -> bool
+    ensures { result ≡ is_known profile causes reg wanted here }
 {
-    (wanted ^ here) & !known_bits(causes, reg, wanted, here) == 0
+    (wanted ^ here) & !known_bits(profile, causes, reg, wanted, here) == 0
 }
 
 /// The bits of a register in which its answer may differ, where another device gave `wanted` and the model `here`.
-pub fn known_bits(causes: Causes, reg: Reg, wanted: u32, here: u32) -> u32
-    ensures { result ≡ known_bits causes reg wanted here }
+pub fn known_bits(profile: Profile, causes: Causes, reg: Reg, wanted: u32, here: u32) -> u32
+    ensures { result ≡ known_bits profile causes reg wanted here }
 {
     match reg {
-        Reg::Ctrl => unless(causes.ctrl, 0x00FC_1BE1),
-        Reg::Ledctl => unless(causes.ledctl, ALL),
-        Reg::Pba => unless(causes.pba, 0x007F_007F),
-        Reg::Vet => unless(causes.vet, 0x0000_FFFF),
-        Reg::Status => 0x8008_0700,
+        Reg::Ctrl => in_first(profile, unless(causes.ctrl, 0x00FC_1BE1)),
+        Reg::Ledctl => in_first(profile, unless(causes.ledctl, ALL)),
+        Reg::Pba => in_first(profile, unless(causes.pba, 0x007F_007F)),
+        Reg::Vet => in_first(profile, unless(causes.vet, 0x0000_FFFF)),
+        Reg::Status => in_first(profile, 0x8008_0700),
         Reg::Eerd => when(is_unheld((here >> 8) & 0xFF), 0xFFFF_0000),
+        Reg::Eecd => of_pins(wanted, here),
         Reg::CtrlExt
         | Reg::Fcal
         | Reg::Fcah
@@ -36,14 +37,17 @@ pub fn known_bits(causes: Causes, reg: Reg, wanted: u32, here: u32) -> u32
         | Reg::Rxdctl
         | Reg::Tidv
         | Reg::Rxcsum => when(wanted == 0, ALL),
-        Reg::Rdtr | Reg::Radv | Reg::Tadv | Reg::Itr => when(wanted >> 16 == 0, 0xFFFF_0000),
+        Reg::Rdtr | Reg::Radv | Reg::Tadv | Reg::Itr => {
+            in_first(profile, when(wanted >> 16 == 0, 0xFFFF_0000))
+        }
         Reg::Rdbal | Reg::Tdbal => 0x0000_000F,
         Reg::Rah(_) => 0x7FFC_0000,
         Reg::Ics => 0x0001_FFFF,
         Reg::Ims => 0xFFFE_0000,
         Reg::Icr => 0xFFFE_0000
             | when(causes.sent, 0x0000_0003)
-            | when(causes.arrived, 0x0000_0050),
+            | when(causes.arrived, 0x0000_0050)
+            | when(causes.enabled, 0x0000_0080),
         Reg::Rdh => when(causes.rdt, 0x0000_FFFF),
         Reg::Tdh => when(causes.tdt, 0x0000_FFFF),
         Reg::Gptc
@@ -82,12 +86,29 @@ pub fn known_bits(causes: Causes, reg: Reg, wanted: u32, here: u32) -> u32
     }
 }
 
+/// These bits, in the first profile: the second one has the start values, bits and widths of QEMU's.
+fn in_first(profile: Profile, bits: u32) -> u32
+    ensures { result ≡ in_first profile bits }
+{
+    match profile {
+        Profile::Table => bits,
+        Profile::Adapter => 0,
+    }
+}
+
 /// Whether a word of the EEPROM is none of those that the model holds with the values of another adapter: 0 to 2 are the
 /// address, and 63 is the sum.
 fn is_unheld(word: u32) -> bool
     ensures { result ≡ is_unheld word }
 {
     3 <= word && word <= 63
+}
+
+/// The bits of EECD: GNT, FWE where it is 01b here and 00b wanted, and DO while CS is set.
+fn of_pins(wanted: u32, here: u32) -> u32
+    ensures { result ≡ of_pins wanted here }
+{
+    0x80 | when(here / 16 % 4 == 1 && wanted / 16 % 4 == 0, 0x30) | when(here / 2 % 2 == 1, 0x8)
 }
 
 /// These bits, where something is so.
