@@ -1,5 +1,5 @@
 -- What the filters read of the registers, by the manual's names.
-use Rattle.std.specs.Prelude.{ℕ, ◌/◌, ◌%◌, ◌^◌, ◌==◌, ◌&&◌, Bool, true, false}
+use Rattle.std.specs.Prelude.{ℕ, ◌/◌, ◌%◌, ◌^◌, ◌==◌, ◌&&◌, ◌||◌, Bool, true, false}
 use Rattle.em_regs.specs.declared.profile.Profile.{Profile}
 use Rattle.em_regs.specs.declared.profile.Profile.TheVariants.{Table, Adapter}
 use Rattle.em_regs.specs.declared.reg.Reg.TheVariants.{Ctrl, Vet, Rctl, Mta, Ral, Rah, Vfta}
@@ -37,6 +37,14 @@ vfe s = has (rctl s) (2 ^ 18)
 abbrev pub is_second : Profile → Bool
 is_second Table = false
 is_second Adapter = true
+
+-- bit 2
+abbrev pub sbp : Profile → Registers → Bool
+sbp p s = is_second p && has (rctl s) (2 ^ 2)
+
+-- long frames are taken: with LPE, and with SBP, since without LPE they are bad frames
+abbrev pub takes_long : Profile → Registers → Bool
+takes_long p s = sbp p s || lpe s
 
 -- bit 19
 abbrev pub cfien : Profile → Registers → Bool

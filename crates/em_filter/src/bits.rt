@@ -1,6 +1,6 @@
 //! The bits and fields that the filters read of the registers.
 ghost use Rattle.std.specs.Prelude.{◌≡◌, ◌<◌, ◌%◌, ◌^◌, ◌==◌, ◌&&◌};
-ghost use Rattle.em_filter.specs.Bits.{as_of, av, cfi, cfien, dpf, is_second, pmcf};
+ghost use Rattle.em_filter.specs.Bits.{as_of, av, cfi, cfien, dpf, is_second, pmcf, sbp, takes_long};
 ghost use Rattle.em_filter.specs.Bits.{bam, lpe, mo, mpe, mta, rah, ral, upe, vet, vfe, vfta, vme};
 ghost use Rattle.em_regs.specs.Setup.{bit};
 ghost use Rattle.em_filter.specs.Address.{is_valid};
@@ -34,7 +34,7 @@ pub(crate) fn mpe(regs: &RegFile) -> bool
 }
 
 /// RCTL.LPE: long frames are taken.
-pub(crate) fn lpe(regs: &RegFile) -> bool
+fn lpe(regs: &RegFile) -> bool
     ensures { result ≡ lpe regs.now }
 {
     Rctl::from_bits_retain(regs.look(Reg::Rctl)).contains(Rctl::LPE)
@@ -59,6 +59,20 @@ pub(crate) fn is_second(profile: Profile) -> bool
     ensures { result ≡ is_second profile }
 {
     matches!(profile, Profile::Adapter)
+}
+
+/// RCTL.SBP: bad frames are taken.
+fn sbp(profile: Profile, regs: &RegFile) -> bool
+    ensures { result ≡ sbp profile regs.now }
+{
+    is_second(profile) && Rctl::from_bits_retain(regs.look(Reg::Rctl)).contains(Rctl::SBP)
+}
+
+/// Long frames are taken: with RCTL.LPE, and in the second profile with RCTL.SBP, since without LPE they are bad frames.
+pub(crate) fn takes_long(profile: Profile, regs: &RegFile) -> bool
+    ensures { result ≡ takes_long profile regs.now }
+{
+    sbp(profile, regs) || lpe(regs)
 }
 
 /// RCTL.CFIEN: the CFI of tags is compared.

@@ -14,7 +14,7 @@ use em_regs::{Profile, RegFile};
 /// The octets of the frame check sequence, which follow a frame on the wire and count with it.
 pub const CHECK_OCTETS: usize = 4;
 
-/// The fewest octets of a frame on the wire, and the most without and with RCTL.LPE.
+/// The fewest octets of a frame on the wire, and the most without and with RCTL.LPE or SBP.
 const FEWEST: usize = 64;
 
 const MOST: u32 = 1522;
@@ -36,7 +36,7 @@ pub fn verdict(profile: Profile, regs: &RegFile, frame: &[u8]) -> Verdict
         Verdict::Reject
     } else if octets < FEWEST {
         Verdict::Undersize
-    } else if octets > longest(regs) as usize {
+    } else if octets > longest(profile, regs) as usize {
         Verdict::Oversize
     } else if !passes_others(profile, regs, frame) {
         Verdict::Reject
@@ -88,8 +88,12 @@ fn destination(frame: &[u8]) -> [u8; 6]
 }
 
 /// The most octets that a frame may have on the wire.
-pub fn longest(regs: &RegFile) -> u32
-    ensures { result ≡ longest regs.now }
+pub fn longest(profile: Profile, regs: &RegFile) -> u32
+    ensures { result ≡ longest profile regs.now }
 {
-    if bits::lpe(regs) { MOST_LONG } else { MOST }
+    if bits::takes_long(profile, regs) {
+        MOST_LONG
+    } else {
+        MOST
+    }
 }
