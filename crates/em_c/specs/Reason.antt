@@ -51,6 +51,7 @@ of_tx_idle tx.NoRing = record blank { rule = number_of rule.TxNoRing }
 of_tx_idle (tx.HeadPast head count) = record blank { rule = number_of rule.TxHeadPast; index = head; count = count }
 of_tx_idle (tx.TailPast tail count) = record blank { rule = number_of rule.TxTailPast; index = tail; count = count }
 of_tx_idle (tx.Empty at) = record blank { rule = number_of rule.TxEmpty; index = at }
+of_tx_idle tx.LinkDown = record blank { rule = number_of rule.TxLinkDown }
 
 -- a CFI is 1 or 0
 abbrev pub cfi_told : Bool → ℕ
@@ -68,6 +69,8 @@ of_dropped (dropped.Undersize octets) =
     record blank { rule = number_of rule.FrameUndersize; octets = octets; most = 64 }
 of_dropped (dropped.Oversize octets most) =
     record blank { rule = number_of rule.FrameOversize; octets = octets; most = most }
+of_dropped (dropped.Overlong octets most) =
+    record blank { rule = number_of rule.FrameOversize; octets = octets; most = most }
 of_dropped (dropped.Vlan identifier) = record blank { rule = number_of rule.FrameVlan; value = identifier }
 of_dropped (dropped.Control to hash) = record blank { rule = number_of rule.FrameControl; to = to; value = hash }
 of_dropped (dropped.Cfi cfi) = record blank { rule = number_of rule.FrameCfi; value = cfi_told cfi }
@@ -78,6 +81,11 @@ of_dropped (dropped.Missed octets frames) =
 -- where something leaves guest memory, which lies there
 abbrev pub in_memory : Bounds → EmReason → EmReason
 in_memory b r = record r { base = b.base; memory = b.end - b.base }
+
+-- a transmit descriptor has too many octets
+abbrev pub too_long : ℕ → ℕ → ℕ → EmReason
+too_long index at octets =
+    record blank { rule = number_of rule.TxTooLong; index = index; address = address_told at; octets = octets }
 
 abbrev pub of_refused : WhyRefused → EmReason
 of_refused (undone.NoRegister offset) = record blank { rule = number_of rule.NoRegister; address = offset }
@@ -99,8 +107,8 @@ of_refused (undone.TxDescriptor index at memory) =
     in_memory memory (record blank { rule = number_of rule.TxDescriptor; index = index; address = address_told at })
 of_refused (undone.Extended index at) =
     record blank { rule = number_of rule.TxExtended; index = index; address = address_told at }
-of_refused (undone.TooLong index at octets) =
-    record blank { rule = number_of rule.TxTooLong; index = index; address = address_told at; octets = octets }
+of_refused (undone.TooLong index at octets) = too_long index at octets
+of_refused (undone.Overlong index at octets) = too_long index at octets
 of_refused (undone.TxBuffer index at buffer octets memory) = in_memory memory (record blank {
   rule = number_of rule.TxBuffer;
   index = index;

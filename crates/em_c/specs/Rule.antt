@@ -8,6 +8,7 @@ use Rattle.em_c.specs.declared.rule.Rule.TheVariants.{FrameMulticast, FrameBroad
 use Rattle.em_c.specs.declared.rule.Rule.TheVariants.{FrameVlan, FrameMissed, NoRegister, WriteRange, WriteLength}
 use Rattle.em_c.specs.declared.rule.Rule.TheVariants.{FrameLength, RxDescriptor, RxBuffer, TxDescriptor, TxExtended}
 use Rattle.em_c.specs.declared.rule.Rule.TheVariants.{TxTooLong, TxBuffer, Memory, FrameControl, FrameCfi, FramePause}
+use Rattle.em_c.specs.declared.rule.Rule.TheVariants.{TxLinkDown}
 
 abbrev pub number_of : Rule → ℕ
 number_of NoRule = 0
@@ -45,3 +46,4 @@ number_of Memory = 31
 number_of FrameControl = 32
 number_of FrameCfi = 33
 number_of FramePause = 34
+number_of TxLinkDown = 35

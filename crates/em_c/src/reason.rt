@@ -147,6 +147,7 @@ fn of_tx_idle(reason: TxIdle) -> EmReason
         TxIdle::HeadPast { head, count } => at_ring(Rule::TxHeadPast, head, count),
         TxIdle::TailPast { tail, count } => at_ring(Rule::TxTailPast, tail, count),
         TxIdle::Empty { at } => at_ring(Rule::TxEmpty, at, 0),
+        TxIdle::LinkDown => by(Rule::TxLinkDown),
     }
 }
 
@@ -173,6 +174,7 @@ fn of_dropped(reason: Dropped) -> EmReason
         Dropped::Broadcast { hash } => unfiltered(Rule::FrameBroadcast, BROADCAST, u32::from(hash)),
         Dropped::Undersize { octets } => sized(Rule::FrameUndersize, octets, LEAST_FRAME),
         Dropped::Oversize { octets, most } => sized(Rule::FrameOversize, octets, u64::from(most)),
+        Dropped::Overlong { octets, most } => sized(Rule::FrameOversize, octets, u64::from(most)),
         Dropped::Vlan { identifier } => EmReason {
             value: u32::from(identifier),
             ..by(Rule::FrameVlan)
@@ -209,6 +211,16 @@ fn sized(rule: Rule, octets: u64, most: u64) -> EmReason
     }
 }
 
+/// Of a transmit descriptor with too many octets.
+fn too_long(index: u32, at: u128, octets: u16) -> EmReason
+    ensures { result ≡ the.too_long index at octets }
+{
+    EmReason {
+        octets: u64::from(octets),
+        ..of_descriptor(Rule::TxTooLong, index, at)
+    }
+}
+
 /// Of an event that was refused.
 fn of_refused(reason: WhyRefused) -> EmReason
     ensures { result ≡ the.of_refused reason }
@@ -235,10 +247,8 @@ fn of_refused(reason: WhyRefused) -> EmReason
             in_memory(memory, of_descriptor(Rule::TxDescriptor, index, at))
         }
         WhyRefused::Extended { index, at } => of_descriptor(Rule::TxExtended, index, at),
-        WhyRefused::TooLong { index, at, octets } => EmReason {
-            octets: u64::from(octets),
-            ..of_descriptor(Rule::TxTooLong, index, at)
-        },
+        WhyRefused::TooLong { index, at, octets } => too_long(index, at, octets),
+        WhyRefused::Overlong { index, at, octets } => too_long(index, at, octets),
         WhyRefused::RxBuffer {
             index,
             at,

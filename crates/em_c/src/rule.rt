@@ -4,7 +4,7 @@ ghost use Rattle.em_c.specs.Rule.{number_of};
 
 /// By which rule an event did nothing. The rules of a step, of a frame and of what is refused are asked in the order in
 /// which they stand here, but those from 32 on: FrameControl is asked with FrameUnicast, FrameCfi and FramePause behind
-/// FrameVlan. The first that holds is the reason.
+/// FrameVlan, and TxLinkDown behind TxEmpty. The first that holds is the reason.
 #[derive(Clone, Copy, PartialEq, Eq, Debug)]
 pub enum Rule {
     /// None: the event did something.
@@ -43,7 +43,7 @@ pub enum Rule {
     FrameBroadcast = 16,
     /// A frame was dropped: it has fewer than 64 octets with the FCS.
     FrameUndersize = 17,
-    /// A frame was dropped: it has more octets with the FCS than RCTL.LPE allows.
+    /// A frame was dropped: it has more octets with the FCS than RCTL.LPE allows, or in the second profile LPE and SBP.
     FrameOversize = 18,
     /// A frame was dropped: its VLAN is not in VFTA.
     FrameVlan = 19,
@@ -65,7 +65,8 @@ pub enum Rule {
     TxDescriptor = 27,
     /// A transmit step was refused: the descriptor at TDH is extended (DEXT).
     TxExtended = 28,
-    /// A transmit step was refused: the buffers of the frame hold more than 16,380 octets together.
+    /// A transmit step was refused: the buffers of the frame hold more than 16,380 octets together, or in the second
+    /// profile one of them more than 16,288.
     TxTooLong = 29,
     /// A transmit step was refused: the buffer of the descriptor at TDH leaves guest memory.
     TxBuffer = 30,
@@ -77,6 +78,8 @@ pub enum Rule {
     FrameCfi = 33,
     /// A frame was dropped: it is a pause frame, and RCTL.DPF is set.
     FramePause = 34,
+    /// A transmit step was idle: the link is down, and RCTL.LBM is 0.
+    TxLinkDown = 35,
 }
 
 impl Rule {

@@ -18,6 +18,8 @@ use Rattle.em_regs.specs.Storage.{Registers}
 use Rattle.em_rx.specs.Frame.{len_of}
 use Rattle.em_step.specs.Arrival.{after_accept, after_arrived, after_miss, arrival, is_enabled, judgement, kept_frame}
 use Rattle.em_step.specs.Arrival.{lacks_room}
+use Rattle.em_regs.specs.declared.profile.Profile.{Profile}
+use Rattle.em_regs.specs.declared.profile.Profile.TheVariants.{Table, Adapter}
 use Rattle.em_step.specs.State.{State}
 use Rattle.em_step.specs.declared.event.Answer.{Answer}
 use Rattle.em_step.specs.declared.event.Answer.TheVariants.{Stored, Dropped as Drops, Done, Value, Idle}
@@ -26,9 +28,9 @@ use Rattle.em_step.specs.declared.event.Reason.{Reason}
 use Rattle.em_step.specs.declared.event.Reason.TheVariants as reason
 use Rattle.em_reasons.specs.Table.{first_of}
 use Rattle.em_reasons.specs.declared.dropped.Dropped.{Dropped}
-use Rattle.em_reasons.specs.declared.dropped.Dropped.TheVariants.{Down, Disabled, Undersize, Oversize, Cfi, Pause, Missed}
+use Rattle.em_reasons.specs.declared.dropped.Dropped.TheVariants.{Down, Disabled, Undersize, Cfi, Pause, Missed}
 use Rattle.em_reasons.specs.Dropped.{IsDropped, from_of, reason_of, rejected, to_of, unfiltered, unfiltered_by, unfiltered_so}
-use Rattle.em_reasons.specs.Dropped.{unlisted, why}
+use Rattle.em_reasons.specs.Dropped.{too_long, too_long_by, unlisted, why}
 
 -- the answer by the tests, one after another
 abbrev answer_by : Bool → Bool → Bool → Bool → Bool → Bool → Bool → Bool → Bool → Answer
@@ -86,7 +88,7 @@ by_state true true s a = refl
 abbrev answer_of : State → List ℕ → Answer
 answer_of s f =
     answer_by s.link (is_enabled s) (passes_address s.profile s.registers f) (nat_lt (length f + 4) 64)
-    (nat_lt (longest s.registers) (length f + 4)) (passes_vlan s.registers f) (passes_cfi s.profile s.registers f)
+    (nat_lt (longest s.profile s.registers) (length f + 4)) (passes_vlan s.registers f) (passes_cfi s.profile s.registers f)
     (passes_dpf s.profile s.registers f) (lacks_room s f)
 
 arrival_by : (s : State) (f : List ℕ) → (arrival s f).0 ≡ answer_of s f
@@ -96,7 +98,7 @@ arrival_by s f =
     ∙ ap (λ (a : Answer).
     if not s.link then Drops reason.Down else if not (is_enabled s) then Drops reason.Disabled else a)
     (by_verdict (after_arrived s f) f (passes_address s.profile s.registers f) (nat_lt (length f + 4) 64)
-    (nat_lt (longest s.registers) (length f + 4)) (passes_vlan s.registers f) (passes_cfi s.profile s.registers f)
+    (nat_lt (longest s.profile s.registers) (length f + 4)) (passes_vlan s.registers f) (passes_cfi s.profile s.registers f)
     (passes_dpf s.profile s.registers f) (kind_of (destination f)))
 
 -- ---- each reason, and the first test that holds
@@ -144,16 +146,16 @@ first_said true true true false false true true true false a u o v c p m r h = c
 -- what is said of a drop of the frame for a reason
 abbrev said_of : State → List ℕ → Reason → Dropped
 said_of s f r =
-    said r (rejected s.profile s.registers f) (Undersize (length f + 4)) (Oversize (length f + 4) (longest s.registers))
+    said r (rejected s.profile s.registers f) (Undersize (length f + 4)) (too_long s (length f + 4))
     (Missed (len_of (kept_frame s f)) (length s.fifo.frames))
 
 pub drop_said : (s : State) (f : List ℕ) (r q : Reason) (d : Dropped) → r ≡ q → said_of s f q ≡ d → IsDropped s f r
     → why s f ≡ Some d
 drop_said s f r q d same is dropped =
     first_said s.link (is_enabled s) (passes_address s.profile s.registers f) (nat_lt (length f + 4) 64)
-    (nat_lt (longest s.registers) (length f + 4)) (passes_vlan s.registers f) (passes_cfi s.profile s.registers f)
+    (nat_lt (longest s.profile s.registers) (length f + 4)) (passes_vlan s.registers f) (passes_cfi s.profile s.registers f)
     (passes_dpf s.profile s.registers f) (lacks_room s f)
-    (unfiltered s.profile s.registers f) (Undersize (length f + 4)) (Oversize (length f + 4) (longest s.registers))
+    (unfiltered s.profile s.registers f) (Undersize (length f + 4)) (too_long s (length f + 4))
     (unlisted f) (Cfi (cfi_of f)) Pause (Missed (len_of (kept_frame s f)) (length s.fifo.frames)) r
     (sym (arrival_by s f) ∙ dropped)
     ∙ ap (λ (x : Reason). Some (said_of s f x)) same
@@ -234,13 +236,17 @@ unfiltered_reason false kind.Unicast m to is = ap (λ (k : Kind). reason_of (unf
 unfiltered_reason false kind.Multicast m to is = ap (λ (k : Kind). reason_of (unfiltered_by k m to)) is
 unfiltered_reason false kind.Broadcast m to is = ap (λ (k : Kind). reason_of (unfiltered_by k m to)) is
 
+long_reason : (p : Profile) (n most : ℕ) → reason_of (too_long_by p n most) ≡ reason.Oversize
+long_reason Table n most = refl
+long_reason Adapter n most = refl
+
 reason_of_why : (s : State) (f : List ℕ) → option_map reason_of (why s f) ≡ reason_in (arrival s f).0
 reason_of_why s f =
     reasons s.link (is_enabled s) (passes_address s.profile s.registers f) (nat_lt (length f + 4) 64)
-    (nat_lt (longest s.registers) (length f + 4)) (passes_vlan s.registers f) (passes_cfi s.profile s.registers f)
+    (nat_lt (longest s.profile s.registers) (length f + 4)) (passes_vlan s.registers f) (passes_cfi s.profile s.registers f)
     (passes_dpf s.profile s.registers f) (lacks_room s f) _ _ _ _ _ _ _
     (unfiltered_reason (is_second s.profile && is_other_control f) (kind_of (destination (to_of f))) s.registers
-    (to_of f) refl) refl refl refl refl refl refl
+    (to_of f) refl) refl (long_reason s.profile _ _) refl refl refl refl
     ∙ ap reason_in (sym (arrival_by s f))
 
 pub drops_with_reason : (s : State) (f : List ℕ) (r : Reason)
@@ -252,9 +258,9 @@ drops_with_reason s f r =
 pub stores_without_reason : (s : State) (f : List ℕ) → ((arrival s f).0 ≡ Stored) ↔ (why s f ≡ None)
 stores_without_reason s f =
     let both = none_or_stored s.link (is_enabled s) (passes_address s.profile s.registers f) (nat_lt (length f + 4) 64)
-    (nat_lt (longest s.registers) (length f + 4)) (passes_vlan s.registers f) (passes_cfi s.profile s.registers f)
+    (nat_lt (longest s.profile s.registers) (length f + 4)) (passes_vlan s.registers f) (passes_cfi s.profile s.registers f)
     (passes_dpf s.profile s.registers f) (lacks_room s f)
-    (unfiltered s.profile s.registers f) (Undersize (length f + 4)) (Oversize (length f + 4) (longest s.registers))
+    (unfiltered s.profile s.registers f) (Undersize (length f + 4)) (too_long s (length f + 4))
     (unlisted f) (Cfi (cfi_of f)) Pause (Missed (len_of (kept_frame s f)) (length s.fifo.frames)) in
     (λ h. both.0 (sym (arrival_by s f) ∙ h), λ h. arrival_by s f ∙ both.1 h)
 

@@ -4,7 +4,7 @@ use Rattle.std.proofs.Common.{sym, ap}
 use Rattle.std.proofs.Common.{◌∙◌, arith, subst}
 use Rattle.std.specs.Prelude.{[], ◌∷◌, ◌==◌, ◌||◌, ◌↔◌, nat_le, not, is_some, IsSome, if◌then◌else◌}
 use Rattle.std.proofs.lemmas.Bool.Decides.{nat_tests}
-use Rattle.em_mem.specs.Memory.{leaves, part}
+use Rattle.em_mem.specs.Memory.{leaves}
 use Rattle.em_regs.specs.declared.setup.RxSetup.{RxSetup}
 use Rattle.em_regs.specs.declared.setup.TxSetup.{TxSetup}
 use Rattle.em_regs.specs.Setup.{rx_setup, tx_setup}
@@ -13,6 +13,7 @@ use Rattle.em_rx.specs.Receive as rx
 use Rattle.em_rx.specs.declared.step.RxAnswer.TheVariants as rx_answer
 use Rattle.em_rx.specs.declared.refusal.RxRefusal.TheVariants as rx_refusal
 use Rattle.em_tx.specs.Cells.{Shown}
+use Rattle.em_tx.specs.Control.{first, is_still}
 use Rattle.em_tx.specs.Engine.{gather, handle, refusal, sends, transmit, unless}
 use Rattle.em_tx.specs.Engine as engine
 use Rattle.em_tx.specs.Frame.{frame}
@@ -20,10 +21,11 @@ use Rattle.em_tx.specs.Ring as tx
 use Rattle.em_tx.specs.Engine.{IsHandled}
 use Rattle.em_tx.specs.declared.answer.TxAnswer.{TxAnswer}
 use Rattle.em_tx.specs.declared.answer.TxAnswer.TheVariants as tx_answer
+use Rattle.em_tx.specs.declared.control.TxControl.{TxControl}
 use Rattle.em_tx.specs.declared.refusal.TxRefusal.{TxRefusal}
 use Rattle.em_tx.specs.declared.refusal.TxRefusal.TheVariants as tx_refusal
 use Rattle.em_tx.proofs.EngineLaws.{transmit-idle}
-use Rattle.em_step.specs.Engines.{after_tx_answer, rx_stepped, sending, tx_stepped, with_shown}
+use Rattle.em_step.specs.Engines.{after_tx_answer, is_halted, rx_stepped, sending, tx_control, tx_stepped, with_shown}
 use Rattle.em_step.specs.State.{State}
 use Rattle.em_step.specs.declared.event.Answer.{Answer}
 use Rattle.em_step.specs.declared.event.Answer.TheVariants.{Idle, Wrote, Fetched, Sent}
@@ -91,21 +93,10 @@ rx_idle_first s o q n setup count is =
     ∙ ap (λ (k : ℕ). first_of (rx_idle_table (rx_setup s.registers) k)) count
 
 -- ---- the transmit engine
-five : {A : Type 0} (on z h t e : Bool) (r1 r2 r3 r4 r5 : A) → (z ≡ true → h ≡ true)
-    → is_some (first_of ((not on, r1) ∷ (z, r2) ∷ (h, r3) ∷ (t, r4) ∷ (e, r5) ∷ []))
-    ≡ (not on || h || t || e)
-five false z h t e r1 r2 r3 r4 r5 less = refl
-five true true true t e r1 r2 r3 r4 r5 less = refl
-five true true false t e r1 r2 r3 r4 r5 less = let no : false ≡ true = less refl in cc
-five true false true t e r1 r2 r3 r4 r5 less = refl
-five true false false true e r1 r2 r3 r4 r5 less = refl
-five true false false false true r1 r2 r3 r4 r5 less = refl
-five true false false false false r1 r2 r3 r4 r5 less = refl
-
-pub tx_tests : (q : TxSetup) → is_some (first_of (tx_idle_table q)) ≡ tx.is_idle q
-tx_tests q =
-    five q.enabled (q.count == 0) (nat_le q.count q.head) (nat_le q.count q.tail) (q.head == q.tail)
-    _ _ _ _ _ (none_within q.count q.head)
+pub tx_tests : (q : TxSetup) (halted : Bool) → is_some (first_of (tx_idle_table q halted)) ≡ (tx.is_idle q || halted)
+tx_tests q halted =
+    six q.enabled (q.count == 0) (nat_le q.count q.head) (nat_le q.count q.tail) (q.head == q.tail) halted
+    _ _ _ _ _ _ (none_within q.count q.head)
 
 -- a descriptor that is handled is fetched, or its frame sent
 of_sends : (b : Bool) (q : TxSetup) (d : List ℕ) (s : Shown) (f octets : List ℕ)
@@ -130,14 +121,14 @@ busy_step true x s r busy is = cc
 busy_step false x s r busy is = is
 
 -- a step that is not idle and not refused handles a descriptor
-transmit_handles : (q : TxSetup) (base : ℕ) (s : Shown) (r : TxAnswer × Shown) → tx.is_idle q ≡ false
+transmit_handles : (q : TxControl) (base : ℕ) (s : Shown) (r : TxAnswer × Shown) → is_still q ≡ false
     → transmit q base s ≡ Ok r
     → IsHandled r.0
 unfolding transmit
 transmit_handles q base s r busy is =
-    let d = part s.memory (tx.place q) 16 in
-    by_tests (leaves base s.memory (tx.place q) 16) (refusal base s.gathered s.memory d) (handle q d s) r
-    (handled q d s) (busy_step (tx.is_idle q) _ s r busy is)
+    let d = first q s.memory in
+    by_tests (leaves base s.memory (tx.place q.setup) 16) (refusal q.profile base s.gathered s.memory d) (handle q.setup d s) r
+    (handled q.setup d s) (busy_step (is_still q) _ s r busy is)
 
 -- a step that handles a descriptor is not idle
 handled_answers : (s t : State) (a : TxAnswer) → IsHandled a → after_tx_answer s a ≡ (Idle, t) → false ≡ true
@@ -152,23 +143,25 @@ busy_out : (s : State) (x : Result (TxAnswer × Shown) TxRefusal) → ((r : TxAn
 busy_out s (Ok r) handles same = handled_answers (with_shown s r.1) s r.0 (handles r refl) cc
 busy_out s (Err refusal) handles same = cc
 
-tx_out : (s : State) (idle : Bool) → tx.is_idle (tx_setup s.registers) ≡ idle
-    → (idle ≡ true) ↔ (tx_stepped s (transmit (tx_setup s.registers) s.base (sending s)) ≡ Ok (Idle, s))
+tx_out : (s : State) (idle : Bool) → is_still (tx_control s) ≡ idle
+    → (idle ≡ true) ↔ (tx_stepped s (transmit (tx_control s) s.base (sending s)) ≡ Ok (Idle, s))
 tx_out s true is =
-    (λ h. ap (tx_stepped s) (transmit-idle (tx_setup s.registers) s.base (sending s) is), λ h. refl)
+    (λ h. ap (tx_stepped s) (transmit-idle (tx_control s) s.base (sending s) is), λ h. refl)
 tx_out s false is = (
   λ h. cc,
-  λ h. busy_out s (transmit (tx_setup s.registers) s.base (sending s))
-      (λ r. transmit_handles (tx_setup s.registers) s.base (sending s) r is) h,
+  λ h. busy_out s (transmit (tx_control s) s.base (sending s))
+      (λ r. transmit_handles (tx_control s) s.base (sending s) r is) h,
 )
 
 pub tx_idle_where : (s : State) (o : Option TxIdle) → o ≡ tx_idle s → IsSome o ↔ IsIdleSending s
 tx_idle_where s o is =
-    let q = tx_setup s.registers in
-    let same : is_some o ≡ tx.is_idle q = ap is_some is ∙ tx_tests q in
-    let steps = tx_out s (tx.is_idle q) refl in
+    let same : is_some o ≡ is_still (tx_control s)
+    = ap is_some is ∙ tx_tests (tx_setup s.registers) (is_halted s) in
+    let steps = tx_out s (is_still (tx_control s)) refl in
     (λ h. steps.0 (sym same ∙ h), λ h. same ∙ steps.1 h)
 
-pub tx_idle_first : (s : State) (o : Option TxIdle) (q : TxSetup) → q ≡ tx_setup s.registers
-    → o ≡ first_of (tx_idle_table q) → o ≡ tx_idle s
-tx_idle_first s o q setup is = is ∙ ap (λ (p : TxSetup). first_of (tx_idle_table p)) setup
+pub tx_idle_first : (s : State) (o : Option TxIdle) (q : TxSetup) (halted : Bool) → q ≡ tx_setup s.registers
+    → halted ≡ is_halted s → o ≡ first_of (tx_idle_table q halted) → o ≡ tx_idle s
+tx_idle_first s o q halted setup halts is =
+    is ∙ ap (λ (p : TxSetup). first_of (tx_idle_table p halted)) setup
+    ∙ ap (λ (b : Bool). first_of (tx_idle_table (tx_setup s.registers) b)) halts

@@ -6,7 +6,7 @@
 --      IdleLemmas (`why_rx_idle`, `why_tx_idle`); DropLemmas (`drops_are_explained`)
 --      RefusalLemmas (`refusals_are_explained`); TroubleLemmas (`troubles_are_refused`), on RefusedStay below too
 -- As long as what a test looked at stays, so does its answer:
---   1  BitLemmas: bits that a mask leaves; StayLemmas on IdleLemmas (`idle_steps_stay_idle`)
+--   1  BitLemmas: bits that a mask leaves; LinkLemmas: LU tells the link; ReadLemmas: a descriptor as it is read; StayLemmas on IdleLemmas (`idle_steps_stay_idle`)
 --   2  LostLemmas on DropLemmas (`dropped_frames_stay_dropped`); RefusedStay on RefusalLemmas
 --      (`refused_events_stay_refused`)
 pub mod TableLemmas
@@ -16,5 +16,7 @@ pub mod RefusalLemmas
 pub mod StayLemmas
 pub mod LostLemmas
 pub mod BitLemmas
+pub mod LinkLemmas
+pub mod ReadLemmas
 pub mod RefusedStay
 pub mod TroubleLemmas

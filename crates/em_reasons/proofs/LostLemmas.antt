@@ -11,7 +11,7 @@ use Rattle.em_filter.specs.Address.{accepts, has_hash, has_source, hash_of, is_e
 use Rattle.em_filter.specs.Address.{passes_bam, passes_hash, passes_mpe, passes_upe}
 use Rattle.em_filter.specs.Bits.{is_second}
 use Rattle.em_filter.specs.Control.{is_other_control, is_pause, passes_dpf, passes_pmcf}
-use Rattle.em_filter.specs.Filters.{passes_address}
+use Rattle.em_filter.specs.Filters.{longest, passes_address}
 use Rattle.em_filter.specs.Vlan.{agree, cfi_of, passes_cfi, passes_vlan, tag_of, tagged, type_of}
 use Rattle.em_filter.proofs.TableLaws.{in_table_by_entry}
 use Rattle.em_regs.specs.declared.reg.Reg.TheVariants.{Ctrl, Vet, Rctl, Mta, Ral, Rah, Vfta}
@@ -22,43 +22,21 @@ use Rattle.em_rx.specs.Frame.{len_of, stored_frame}
 use Rattle.em_step.specs.Arrival.{keeps_sequence, kept_frame, with_sequence}
 use Rattle.em_regs.specs.declared.profile.Profile.{Profile}
 use Rattle.em_regs.specs.declared.profile.Profile.TheVariants.{Table, Adapter}
-use Rattle.em_step.specs.State.{State, status_of}
+use Rattle.em_step.specs.State.{State}
 use Rattle.em_step.specs.declared.event.Reason.{Reason}
 use Rattle.em_reasons.specs.Bits.{bit_of, word_of}
-use Rattle.em_reasons.specs.Dropped.{IsDropped, drop_table, reason_of, to_of, unfiltered_by, unfiltered_so, why}
+use Rattle.em_reasons.specs.Dropped.{IsDropped, drop_table, reason_of, to_of, too_long_by, unfiltered_by, unfiltered_so, why}
 use Rattle.em_reasons.specs.Looks.{dropped_looks}
 use Rattle.em_reasons.specs.SameLooks.{SameEntry, SameLooks}
 use Rattle.em_reasons.specs.declared.dropped.Dropped.{Dropped}
 use Rattle.em_reasons.specs.declared.dropped.Dropped.TheVariants.{Control}
 use Rattle.em_reasons.proofs.BitLemmas.{bit_same, bits_by, bits_within, field_same, has_same}
+use Rattle.em_reasons.proofs.LinkLemmas.{link_same}
 use Rattle.em_reasons.proofs.TableLemmas.{gives_first}
 use Rattle.em_reasons.proofs.StayLemmas.{row, row_is, some_where}
 use Rattle.em_reasons.proofs.DropLemmas.{destination_to, drops_with_reason}
 
 -- ---- the tests, where what they look at is the same
--- LU of STATUS tells the link
-abbrev up_by : Profile → Bool → ℕ
-up_by p up = bit_and (status_of p up) 0x2
-
-abbrev lu : Bool → ℕ
-lu true = 0x2
-lu false = 0
-
-up_alone : (p : Profile) (up : Bool) → up_by p up ≡ lu up
-up_alone Table true = refl
-up_alone Table false = refl
-up_alone Adapter true = refl
-up_alone Adapter false = refl
-
-alike : (a b : Bool) → lu a ≡ lu b → a ≡ b
-alike true true h = refl
-alike true false h = absurd (omega arith)
-alike false true h = absurd (omega arith)
-alike false false h = refl
-
-link_same : (p q : Profile) (a b : Bool) → up_by p a ≡ up_by q b → a ≡ b
-link_same p q a b h = alike a b (sym (up_alone p a) ∙ h ∙ up_alone q b)
-
 any_same : (p q : ℕ → Bool) (from n : ℕ) → ((i : ℕ) → from ≤ i → i < from + n → p i ≡ q i)
     → list_any p (range_with_len from n) ≡ list_any q (range_with_len from n)
 any_same p q from zero same = refl
@@ -360,6 +338,18 @@ looks_of s t b x d h =
     subst (λ (y : Dropped). SameLooks s t (dropped_looks y))
     (sym (ap (λ (p : Bool × Dropped). p.1) (row_is (b, x) (true, d) h)))
 
+-- as many octets may there be, by what the profile looks at
+longest_same : (p : Profile) (s t : State) (n most : ℕ) → SameLooks s t (dropped_looks (too_long_by p n most))
+    → longest p t.registers ≡ longest p s.registers
+longest_same Table s t n most looks = ap (λ (v : ℕ). if v == 2 ^ 5 then 16384 else 1522) looks.0
+longest_same Adapter s t n most looks =
+    let v = value_of t.registers Rctl in
+    let w = value_of s.registers Rctl in
+    ap (λ (b : Bool). if b || has v (2 ^ 5) then 16384 else 1522)
+    (has_same (2 ^ 2) v w (bits_within (2 ^ 2) 0x24 v w refl looks.0))
+    ∙ ap (λ (b : Bool). if has w (2 ^ 2) || b then 16384 else 1522)
+    (has_same (2 ^ 5) v w (bits_within (2 ^ 5) 0x24 v w refl looks.0))
+
 lost_again : (s t : State) (f : List ℕ) (k : ℕ) (d : Dropped) → slice_get (drop_table s f) k ≡ Some (true, d)
     → SameLooks s t (dropped_looks d) → t.profile ≡ s.profile → keeps_sequence t ≡ keeps_sequence s
     → is_some (why t f) ≡ true
@@ -379,7 +369,8 @@ lost_again s t f (suc (suc (suc zero))) d h same profile keeps =
 lost_again s t f (suc (suc (suc (suc zero)))) d h same profile keeps =
     let looks = looks_of s t _ _ d h same in
     some_where (drop_table t f) 4 _ refl
-    (ap (λ (v : ℕ). nat_lt (if v == 2 ^ 5 then 16384 else 1522) (length f + 4)) looks.0 ∙ holds_of _ _ d h)
+    (ap (λ (p : Profile). nat_lt (longest p t.registers) (length f + 4)) profile
+    ∙ ap (λ (n : ℕ). nat_lt n (length f + 4)) (longest_same s.profile s t _ _ looks) ∙ holds_of _ _ d h)
 lost_again s t f (suc (suc (suc (suc (suc zero))))) d h same profile keeps =
     let looks = looks_of s t _ _ d h same in
     some_where (drop_table t f) 5 _ refl

@@ -5,6 +5,8 @@ use Rattle.std.proofs.Common.{◌∙◌}
 use Rattle.std.specs.Prelude.{[], ◌∷◌, ◌+◌, ◌*◌, ◌==◌, ◌&&◌, ◌||◌, ◌↔◌, nat_lt, is_none, not, option_map}
 use Rattle.std.specs.Prelude.{if◌then◌else◌}
 use Rattle.em_mem.specs.Memory.{leaves, part}
+use Rattle.em_regs.specs.declared.profile.Profile.{Profile}
+use Rattle.em_regs.specs.declared.profile.Profile.TheVariants.{Table, Adapter}
 use Rattle.em_regs.specs.declared.reg.Reg.{Reg}
 use Rattle.em_regs.specs.declared.setup.RxSetup.{RxSetup}
 use Rattle.em_regs.specs.declared.setup.TxSetup.{TxSetup}
@@ -16,13 +18,14 @@ use Rattle.em_rx.specs.Receive as rx
 use Rattle.em_rx.specs.declared.step.RxAnswer.TheVariants as rx_answer
 use Rattle.em_rx.specs.declared.refusal.RxRefusal.TheVariants as rx_refusal
 use Rattle.em_tx.specs.Cells.{Shown}
+use Rattle.em_tx.specs.Control.{as_read, is_over, is_still}
 use Rattle.em_tx.specs.Descriptor.{address, dext, length_of}
 use Rattle.em_tx.specs.Engine.{refusal as tx_cause, transmit, unless}
 use Rattle.em_tx.specs.Ring as tx
 use Rattle.em_tx.specs.declared.answer.TxAnswer.{TxAnswer}
 use Rattle.em_tx.specs.declared.answer.TxAnswer.TheVariants as tx_answer
 use Rattle.em_tx.specs.declared.refusal.TxRefusal.TheVariants as tx_refusal
-use Rattle.em_step.specs.Engines.{rx_stepped, sending, tx_stepped}
+use Rattle.em_step.specs.Engines.{rx_stepped, sending, tx_control, tx_stepped}
 use Rattle.em_step.specs.Event.{Event, reads, writes, pokes, arrives, links, receives, transmits}
 use Rattle.em_step.specs.State.{State}
 use Rattle.em_step.specs.Step.{at_register, step}
@@ -35,14 +38,13 @@ use Rattle.em_reasons.specs.declared.refused.Bounds.{Bounds}
 use Rattle.em_reasons.specs.declared.refused.Refused.{Refused}
 use Rattle.em_reasons.specs.declared.refused.Refused.TheVariants.{NoRegister, Range, WriteLength, FrameLength}
 use Rattle.em_reasons.specs.declared.refused.Refused.TheVariants.{RxDescriptor, RxBuffer, TxDescriptor, Extended}
-use Rattle.em_reasons.specs.declared.refused.Refused.TheVariants.{TooLong}
 use Rattle.em_inspect.specs.Ring.{octets_at}
 use Rattle.em_regs.specs.Ring.{descriptor_at, rx_ring, tx_ring}
 use Rattle.em_regs.specs.declared.ring.Ring.{Ring}
 use Rattle.em_reasons.specs.Refused.{access_table, bounds, bounds_of, refusal_of, refusal_table, refused_descriptor}
 use Rattle.em_reasons.specs.Refused.{refused_receive, refused_transmit}
 use Rattle.em_reasons.specs.Refused.{refused_write, rx_buffer, rx_table, tx_buffer, tx_octets, tx_table, unless_idle}
-use Rattle.em_reasons.specs.Refused.{why}
+use Rattle.em_reasons.specs.Refused.{too_long, why}
 
 -- the refusal that a table says
 abbrev pub said : List (Bool × Refused) → Option Refusal
@@ -97,6 +99,10 @@ of_transmit s false false false true buffer r d x l b hd hx hl hb = ap Some hl
 of_transmit s false false false false true r d x l b hd hx hl hb = ap Some hb
 of_transmit s false false false false false r d x l b hd hx hl hb = refl
 
+pub long_refusal : (p : Profile) (i at n : ℕ) → refusal_of (too_long p i at n) ≡ refusal.TooLong
+long_refusal Table i at n = refl
+long_refusal Adapter i at n = refl
+
 pub refusal_said : (s : State) (e : Event) → option_map refusal_of (why s e) ≡ refusal_in (step s e)
 unfolding transmit tx_cause
 refusal_said s (reads o) = of_access o (reg_of s.profile o) _ (answers_at s.profile o) _
@@ -112,10 +118,11 @@ refusal_said s receives =
     (leaves s.base s.memory (rx.buffer_at q s.memory) (rx.count_of q s.fifo)) _ _ refl refl
 refusal_said s transmits =
     let q = tx_setup s.registers in
-    let d = tx_octets q s.memory in
-    of_transmit s (tx.is_idle q) (leaves s.base s.memory (tx.place q) 16) (dext d)
-    (nat_lt 16380 (length s.gathered + length_of d))
-    (nat_lt 0 (length_of d) && leaves s.base s.memory (address d) (length_of d)) _ _ _ _ _ refl refl refl refl
+    let d = tx_octets s.profile q s.memory in
+    of_transmit s (is_still (tx_control s)) (leaves s.base s.memory (tx.place q) 16) (dext d)
+    (nat_lt 16380 (length s.gathered + length_of d) || is_over s.profile (length_of d))
+    (nat_lt 0 (length_of d) && leaves s.base s.memory (address d) (length_of d)) _ _ _ _ _ refl refl
+    (long_refusal s.profile q.head (tx.place q) (length_of d)) refl
 
 is_refused : (x : Result (Answer × State) Refusal) (r : Refusal) → (x ≡ Err r) ↔ (refusal_in x ≡ Some r)
 is_refused (Ok a) r = (λ h. cc, λ h. cc)
@@ -200,30 +207,32 @@ receive_refused s r d is h =
     (said_of s receives r h)
     ∙ ap Some (sym is)
 
-by_descriptor : (r : Refusal) (q : TxSetup) (memory : Bounds) (d : List ℕ)
-    → of_descriptor r (Extended q.head (tx.place q)) (TooLong q.head (tx.place q) (length_of d)) (tx_buffer q memory d)
-    ≡ refused_descriptor r q memory d
-by_descriptor refusal.NoRegister q memory d = refl
-by_descriptor refusal.Range q memory d = refl
-by_descriptor refusal.Length q memory d = refl
-by_descriptor refusal.DmaRange q memory d = refl
-by_descriptor refusal.Extended q memory d = refl
-by_descriptor refusal.TooLong q memory d = refl
-by_descriptor refusal.Memory q memory d = refl
+by_descriptor : (r : Refusal) (p : Profile) (q : TxSetup) (memory : Bounds) (d : List ℕ)
+    → of_descriptor r (Extended q.head (tx.place q)) (too_long p q.head (tx.place q) (length_of d)) (tx_buffer q memory d)
+    ≡ refused_descriptor r p q memory d
+by_descriptor refusal.NoRegister p q memory d = refl
+by_descriptor refusal.Range p q memory d = refl
+by_descriptor refusal.Length p q memory d = refl
+by_descriptor refusal.DmaRange p q memory d = refl
+by_descriptor refusal.Extended p q memory d = refl
+by_descriptor refusal.TooLong p q memory d = refl
+by_descriptor refusal.Memory p q memory d = refl
 
 pub transmit_refused : (s : State) (r : Refusal) (d : Refused)
-    → d ≡ refused_transmit r (tx_setup s.registers) s.base s.memory → step s transmits ≡ Err r
+    → d ≡ refused_transmit r s.profile (tx_setup s.registers) s.base s.memory → step s transmits ≡ Err r
     → why s transmits ≡ Some d
 transmit_refused s r d is h =
     let q = tx_setup s.registers in
-    let octets = tx_octets q s.memory in
+    let octets = tx_octets s.profile q s.memory in
     let outside = leaves s.base s.memory (tx.place q) 16 in
     let here = TxDescriptor q.head (tx.place q) (bounds_of s) in
-    four_busy (tx.is_idle q) outside (dext octets) (nat_lt 16380 (length s.gathered + length_of octets))
+    four_busy (is_still (tx_control s)) outside (dext octets)
+    (nat_lt 16380 (length s.gathered + length_of octets) || is_over s.profile (length_of octets))
     (nat_lt 0 (length_of octets) && leaves s.base s.memory (address octets) (length_of octets)) here
-    (Extended q.head (tx.place q)) (TooLong q.head (tx.place q) (length_of octets)) (tx_buffer q (bounds_of s) octets) r
-    refl refl refl (said_of s transmits r h)
-    ∙ ap (λ (x : Refused). Some (if outside then here else x)) (by_descriptor r q (bounds_of s) octets)
+    (Extended q.head (tx.place q)) (too_long s.profile q.head (tx.place q) (length_of octets))
+    (tx_buffer q (bounds_of s) octets) r
+    refl (long_refusal s.profile q.head (tx.place q) (length_of octets)) refl (said_of s transmits r h)
+    ∙ ap (λ (x : Refused). Some (if outside then here else x)) (by_descriptor r s.profile q (bounds_of s) octets)
     ∙ ap Some (sym is)
 
 pub link_refused : (s : State) (up : Bool) (r : Refusal) (d : Refused) → step s (links up) ≡ Err r
@@ -260,8 +269,18 @@ tables_lack s receives =
     lacks_busy (rx.is_idle q s.fifo) (rx_table q s.base s.memory s.fifo) (λ h. cc, (λ h. cc, tt))
 tables_lack s transmits =
     let q = tx_setup s.registers in
-    lacks_busy (tx.is_idle q) (tx_table q (bounds_of s) s.gathered (tx_octets q s.memory))
-    (λ h. cc, (λ h. cc, (λ h. cc, (λ h. cc, tt))))
+    let d = tx_octets s.profile q s.memory in
+    lacks_busy (is_still (tx_control s)) (tx_table s.profile q (bounds_of s) s.gathered d) (
+      λ h. cc,
+      (
+        λ h. cc,
+        (
+          λ h. let no : refusal.TooLong ≡ refusal.Memory
+              = sym (long_refusal s.profile q.head (tx.place q) (length_of d)) ∙ h in cc,
+          (λ h. cc, tt),
+        ),
+      ),
+    )
 
 pub never_memory : (s : State) (e : Event) (r : Refusal) (d : Refused) → r ≡ refusal.Memory → step s e ≡ Err r
     → why s e ≡ Some d
@@ -314,23 +333,23 @@ receive_inside p q base memory octets fifo place buffer n lies_in same some at a
     else rx_buffer p base memory fifo) found.0)
     ∙ ap (λ (r : RxSetup). refused_receive r base memory fifo) same
 
-pub transmit_outside : (r : Refusal) (p q : TxSetup) (base : ℕ) (memory : List ℕ) (place : ℕ) (lies_in : Bounds) → p ≡ q
+pub transmit_outside : (r : Refusal) (k : Profile) (p q : TxSetup) (base : ℕ) (memory : List ℕ) (place : ℕ) (lies_in : Bounds) → p ≡ q
     → None ≡ octets_at (tx_ring p) base memory p.head → place ≡ p.base + 16 * p.head → lies_in ≡ bounds base memory
-    → TxDescriptor p.head place lies_in ≡ refused_transmit r q base memory
-transmit_outside r p q base memory place lies_in same none at lies =
+    → TxDescriptor p.head place lies_in ≡ refused_transmit r k q base memory
+transmit_outside r k p q base memory place lies_in same none at lies =
     let test : leaves base memory (tx.place p) 16 ≡ true = outside _ _ none in
     ap (λ (n : ℕ). TxDescriptor p.head n lies_in) at
     ∙ ap (λ (b : Bounds). TxDescriptor p.head (tx.place p) b) lies
     ∙ sym (ap (λ (b : Bool). if b then TxDescriptor p.head (tx.place p) (bounds base memory)
-    else refused_descriptor r p (bounds base memory) (tx_octets p memory)) test)
-    ∙ ap (λ (s : TxSetup). refused_transmit r s base memory) same
+    else refused_descriptor r k p (bounds base memory) (tx_octets k p memory)) test)
+    ∙ ap (λ (s : TxSetup). refused_transmit r k s base memory) same
 
-pub transmit_inside : (r : Refusal) (p q : TxSetup) (base : ℕ) (memory octets : List ℕ) (d : Refused) → p ≡ q
-    → Some octets ≡ octets_at (tx_ring p) base memory p.head → d ≡ refused_descriptor r p (bounds base memory) octets
-    → d ≡ refused_transmit r q base memory
-transmit_inside r p q base memory octets d same some is =
+pub transmit_inside : (r : Refusal) (k : Profile) (p q : TxSetup) (base : ℕ) (memory octets : List ℕ) (d : Refused) → p ≡ q
+    → Some octets ≡ octets_at (tx_ring p) base memory p.head → d ≡ refused_descriptor r k p (bounds base memory) (as_read k octets)
+    → d ≡ refused_transmit r k q base memory
+transmit_inside r k p q base memory octets d same some is =
     let found = inside (leaves base memory (tx.place p) 16) (part memory (tx.place p) 16) octets some in
-    is ∙ ap (λ (l : List ℕ). refused_descriptor r p (bounds base memory) l) found.1
+    is ∙ ap (λ (l : List ℕ). refused_descriptor r k p (bounds base memory) (as_read k l)) found.1
     ∙ sym (ap (λ (b : Bool). if b then TxDescriptor p.head (tx.place p) (bounds base memory)
-    else refused_descriptor r p (bounds base memory) (tx_octets p memory)) found.0)
-    ∙ ap (λ (s : TxSetup). refused_transmit r s base memory) same
+    else refused_descriptor r k p (bounds base memory) (tx_octets k p memory)) found.0)
+    ∙ ap (λ (s : TxSetup). refused_transmit r k s base memory) same

@@ -1,18 +1,22 @@
 -- As long as what a test looked at stays, an event is refused.
-use Rattle.std.proofs.Common.{◌≡◌, ◌∙◌, ◌+◌, ◌-◌, ◌*◌, ◌/◌, ◌%◌, ◌^◌, ◌<◌, ◌≤◌, ℕ, zero, suc, Bool, true, false, List, [], ◌∷◌}
+use Rattle.std.proofs.Common.{◌≡◌, ◌∙◌, ◌+◌, ◌-◌, ◌*◌, ◌/◌, ◌%◌, ◌^◌, ◌<◌, ◌≤◌, ℕ, Bool, true, false, List, [], ◌∷◌}
 use Rattle.std.proofs.Common.{◌⊎◌, inl, inr, Option, Some, None, Err, refl, length, sym, ap, subst, arith}
-use Rattle.std.specs.Prelude.{◌&&◌, nat_lt, is_some, slice_index, drop, option_map}
+use Rattle.std.specs.Prelude.{◌&&◌, ◌||◌, nat_lt, is_some, slice_index, drop, option_map}
 use Rattle.std.specs.Prelude.{if◌then◌else◌, bit_and, min}
+use Rattle.std.proofs.lemmas.Bool.{cases_lt}
 use Rattle.std.proofs.lemmas.Bool.Decides.{nat_tests}
 use Rattle.std.proofs.lemmas.List.{get_or-drop, get_or-take}
-use Rattle.byteorder.specs.Endian.{little_from, little_number}
+use Rattle.byteorder.specs.Endian.{little_number}
 use Rattle.em_mem.specs.Memory.{leaves, part}
 use Rattle.em_regs.specs.declared.profile.Profile.{Profile}
+use Rattle.em_regs.specs.declared.profile.Profile.TheVariants.{Table, Adapter}
 use Rattle.em_regs.specs.Setup.{bit, buffer_size, has, rx_setup, tx_setup}
 use Rattle.em_rx.specs.Fifo.{Fifo, first, rest}
 use Rattle.em_rx.specs.Receive as rx
+use Rattle.em_tx.specs.Control.{as_read, is_over, is_still}
 use Rattle.em_tx.specs.Descriptor.{address, dext, length_of}
 use Rattle.em_tx.specs.Ring as tx
+use Rattle.em_step.specs.Engines.{is_halted, tx_control}
 use Rattle.em_step.specs.Event.{Event, reads, writes, pokes, arrives, links, receives, transmits}
 use Rattle.em_step.specs.State.{State}
 use Rattle.em_step.specs.Step.{step}
@@ -20,14 +24,15 @@ use Rattle.em_step.specs.declared.refusal.Refusal.{Refusal}
 use Rattle.em_reasons.specs.declared.refused.Bounds.{Bounds}
 use Rattle.em_reasons.specs.declared.refused.Refused.{Refused}
 use Rattle.em_reasons.specs.declared.refused.Refused.TheVariants.{RxDescriptor, RxBuffer, TxDescriptor, TxBuffer}
-use Rattle.em_reasons.specs.declared.refused.Refused.TheVariants.{Extended, TooLong}
+use Rattle.em_reasons.specs.declared.refused.Refused.TheVariants.{Extended}
 use Rattle.em_reasons.specs.Looks.{looks_before, refused_looks, rx_place, tx_place}
 use Rattle.em_reasons.specs.Refused.{IsBusy, access_table, bounds_of, is_past, refusal_of, rx_table, tx_octets, tx_table}
-use Rattle.em_reasons.specs.Refused.{unless_idle, why, write_table}
+use Rattle.em_reasons.specs.Refused.{too_long, unless_idle, why, write_table}
 use Rattle.em_reasons.specs.SameLooks.{SameLooks}
 use Rattle.em_reasons.specs.Table.{first_of}
 use Rattle.em_reasons.proofs.BitLemmas.{bits_within, field_same, has_same}
 use Rattle.em_reasons.proofs.IdleLemmas.{rx_tests, tx_tests}
+use Rattle.em_reasons.proofs.ReadLemmas.{address_read, dext_read, length_alike, number_same, read_plainly}
 use Rattle.em_reasons.proofs.RefusalLemmas.{refused_with_reason}
 use Rattle.em_reasons.proofs.StayLemmas.{some_where}
 
@@ -48,13 +53,6 @@ octet_same m w a o n i same from less within =
     ∙ octet_of m (a + o) n (i - o) (omega arith)
     ∙ ap (slice_index m) (sym at)
     ∙ sym (octet_of m a 16 i within)
-
-number_same : (xs ys : List ℕ) (i n : ℕ) → ((k : ℕ) → k < i + n → slice_index xs k ≡ slice_index ys k)
-    → little_from i n xs ≡ little_from i n ys
-number_same xs ys i zero same = refl
-number_same xs ys i (suc n) same =
-    ap (λ (v : ℕ). v + 256 * little_from (suc i) n xs) (same i (omega arith))
-    ∙ ap (λ (v : ℕ). slice_index ys i + 256 * v) (number_same xs ys (suc i) n (λ k less. same k (omega arith)))
 
 -- the address of the buffer, the length, and CMD
 number_at_start : (m w : List ℕ) (a n : ℕ) → 8 ≤ n → n ≤ 16 → part w (a + 0) n ≡ part m (a + 0) n
@@ -134,8 +132,8 @@ none_is o b none is = sym is ∙ ap is_some none
 pub rx_busy : (t : State) → IsBusy t receives → rx.is_idle (rx_setup t.registers) t.fifo ≡ false
 rx_busy t is = none_is _ _ is (rx_tests (rx_setup t.registers) t.fifo)
 
-pub tx_busy : (t : State) → IsBusy t transmits → tx.is_idle (tx_setup t.registers) ≡ false
-tx_busy t is = none_is _ _ is (tx_tests (tx_setup t.registers))
+pub tx_busy : (t : State) → IsBusy t transmits → is_still (tx_control t) ≡ false
+tx_busy t is = none_is _ _ is (tx_tests (tx_setup t.registers) (is_halted t))
 
 -- ---- receive steps
 abbrev rx_first : Bounds → ℕ → ℕ → Row
@@ -239,8 +237,8 @@ tx_first size head place = (is_past size place 16, TxDescriptor head place size)
 abbrev tx_second : Bool → ℕ → ℕ → Row
 tx_second extended head place = (extended, Extended head place)
 
-abbrev tx_third : ℕ → ℕ → ℕ → ℕ → Row
-tx_third gathered n head place = (nat_lt 16380 (gathered + n), TooLong head place n)
+abbrev tx_third : Profile → ℕ → ℕ → ℕ → ℕ → Row
+tx_third p gathered n head place = (nat_lt 16380 (gathered + n) || is_over p n, too_long p head place n)
 
 abbrev tx_fourth : Bounds → ℕ → ℕ → ℕ → ℕ → Row
 tx_fourth size a n head place = (nat_lt 0 n && is_past size a n, TxBuffer head place a n size)
@@ -255,29 +253,33 @@ front_two : {size z : Bounds} {head place h p : ℕ} {extended e : Bool} (rows :
     ≡ behind (tx_first size head place) (tx_second extended head place ∷ rows)
 front_two rows same index at format = rw (same, index, at, format) refl
 
-front_three : {size z : Bounds} {head place gathered n h p g k : ℕ} {extended e : Bool} (rows : List Row) → z ≡ size → h ≡ head
-    → p ≡ place → e ≡ extended → g ≡ gathered → k ≡ n
-    → behind (tx_first z h p) (tx_second e h p ∷ tx_third g k h p ∷ rows)
-    ≡ behind (tx_first size head place) (tx_second extended head place ∷ tx_third gathered n head place ∷ rows)
-front_three rows same index at format earlier long = rw (same, index, at, format, earlier, long) refl
+front_three : {size z : Bounds} {x y : Profile} {head place gathered n h p g k : ℕ} {extended e : Bool} (rows : List Row)
+    → z ≡ size → y ≡ x → h ≡ head → p ≡ place → e ≡ extended → g ≡ gathered → k ≡ n
+    → behind (tx_first z h p) (tx_second e h p ∷ tx_third y g k h p ∷ rows)
+    ≡ behind (tx_first size head place) (tx_second extended head place ∷ tx_third x gathered n head place ∷ rows)
+front_three rows same profile index at format earlier long = rw (same, profile, index, at, format, earlier, long) refl
 
-front_four : {size z : Bounds} {head place gathered n a h p g k b : ℕ} {extended e : Bool} → z ≡ size → h ≡ head
-    → p ≡ place → e ≡ extended → g ≡ gathered → k ≡ n → b ≡ a
-    → behind (tx_first z h p) (tx_second e h p ∷ tx_third g k h p ∷ tx_fourth z b k h p ∷ [])
+front_four : {size z : Bounds} {x y : Profile} {head place gathered n a h p g k b : ℕ} {extended e : Bool} → z ≡ size
+    → y ≡ x → h ≡ head → p ≡ place → e ≡ extended → g ≡ gathered → k ≡ n → b ≡ a
+    → behind (tx_first z h p) (tx_second e h p ∷ tx_third y g k h p ∷ tx_fourth z b k h p ∷ [])
     ≡ behind (tx_first size head place)
-    (tx_second extended head place ∷ tx_third gathered n head place ∷ tx_fourth size a n head place ∷ [])
-front_four same index at format earlier long address = rw (same, index, at, format, earlier, long, address) refl
+    (tx_second extended head place ∷ tx_third x gathered n head place ∷ tx_fourth size a n head place ∷ [])
+front_four same profile index at format earlier long address =
+    rw (same, profile, index, at, format, earlier, long, address) refl
+
+abbrev octets_of : State → List ℕ
+octets_of s = tx_octets s.profile (tx_setup s.registers) s.memory
 
 abbrev tx_rows : State → List Row
-tx_rows s =
-    tx_table (tx_setup s.registers) (bounds_of s) s.gathered (tx_octets (tx_setup s.registers) s.memory)
+tx_rows s = tx_table s.profile (tx_setup s.registers) (bounds_of s) s.gathered (octets_of s)
 
--- the descriptor at TDH, where it lies in the first of two states
+-- the descriptor at TDH of the first of two states, as it lies in the second one
 abbrev there : State → State → List ℕ
 there s t = part t.memory (tx.place (tx_setup s.registers)) 16
 
-octets_there : (s t : State) → SameLooks s t tx_place → tx_octets (tx_setup t.registers) t.memory ≡ there s t
-octets_there s t looks = ap (λ (a : ℕ). part t.memory a 16) (tx_at s t looks)
+octets_there : (s t : State) → t.profile ≡ s.profile → SameLooks s t tx_place
+    → octets_of t ≡ as_read s.profile (there s t)
+octets_there s t profile looks = λ i. as_read (profile i) (part t.memory (tx_at s t looks i) 16)
 
 -- each of the four tests, where it decides
 abbrev one_of : State → Refused
@@ -287,25 +289,25 @@ abbrev two_of : State → Refused
 two_of s = Extended (tx_setup s.registers).head (tx.place (tx_setup s.registers))
 
 abbrev three_of : State → Refused
-three_of s = TooLong (tx_setup s.registers).head (tx.place (tx_setup s.registers)) (length_of (there s s))
+three_of s = too_long s.profile (tx_setup s.registers).head (tx.place (tx_setup s.registers)) (length_of (octets_of s))
 
 abbrev four_of : State → Refused
 four_of s =
-    TxBuffer (tx_setup s.registers).head (tx.place (tx_setup s.registers)) (address (there s s))
-    (length_of (there s s)) (bounds_of s)
+    TxBuffer (tx_setup s.registers).head (tx.place (tx_setup s.registers)) (address (octets_of s))
+    (length_of (octets_of s)) (bounds_of s)
 
 abbrev is_one : State → Bool
 is_one s = leaves s.base s.memory (tx.place (tx_setup s.registers)) 16
 
 abbrev is_two : State → Bool
-is_two s = dext (there s s)
+is_two s = dext (octets_of s)
 
 abbrev is_three : State → Bool
-is_three s = nat_lt 16380 (length s.gathered + length_of (there s s))
+is_three s = nat_lt 16380 (length s.gathered + length_of (octets_of s)) || is_over s.profile (length_of (octets_of s))
 
 abbrev is_four : State → Bool
 is_four s =
-    nat_lt 0 (length_of (there s s)) && leaves s.base s.memory (address (there s s)) (length_of (there s s))
+    nat_lt 0 (length_of (octets_of s)) && leaves s.base s.memory (address (octets_of s)) (length_of (octets_of s))
 
 -- the first that holds, and its reason
 abbrev First : State → Refused → Type 0
@@ -337,80 +339,117 @@ one_again s t r size place holds found =
     ∙ decides (is_one s, one_of s) (drop 1 (tx_rows t)) (drop 1 (tx_rows s)) holds
     ∙ found
 
+-- whether it is extended, by CMD
+format_there : (s t : State) → t.profile ≡ s.profile → SameLooks s t tx_place
+    → part t.memory (tx.place (tx_setup s.registers) + 11) 1 ≡ part s.memory (tx.place (tx_setup s.registers) + 11) 1
+    → dext (octets_of t) ≡ dext (octets_of s)
+format_there s t profile place octets =
+    ap dext (octets_there s t profile place)
+    ∙ dext_read s.profile (there s t)
+    ∙ dext_of_tx s.memory t.memory (tx.place (tx_setup s.registers)) octets
+    ∙ sym (dext_read s.profile (there s s))
+
 -- the first two
-two_again : (s t : State) (r : Refused) → bounds_of t ≡ bounds_of s
+two_again : (s t : State) (r : Refused) → t.profile ≡ s.profile → bounds_of t ≡ bounds_of s
     → SameLooks s t (refused_looks (two_of s)) → is_two s ≡ true → first_of (tx_rows s) ≡ Some r
     → first_of (tx_rows t) ≡ Some r
-two_again s t r size looks holds found =
-    let m = s.memory in
+two_again s t r profile size looks holds found =
     let place = looks.1 in
-    let format = ap dext (octets_there s t place) ∙ dext_of_tx m t.memory (tx.place (tx_setup s.registers)) looks.0 in
-    front_two (drop 2 (tx_rows t)) size place.1.1.0 (tx_at s t place) format
+    front_two (drop 2 (tx_rows t)) size place.1.1.0 (tx_at s t place) (format_there s t profile place looks.0)
     ∙ ap (λ (o : Option Refused). if is_one s then Some (one_of s) else o)
     (decides (is_two s, two_of s) (drop 2 (tx_rows t)) (drop 2 (tx_rows s)) holds)
     ∙ found
 
--- the length of the descriptor, by the look at two octets or at ten
-long_there : (s t : State) (o n : ℕ) → o ≤ 8 → 10 ≤ o + n → o + n ≤ 16 → SameLooks s t tx_place
-    → part t.memory (tx.place (tx_setup s.registers) + o) n ≡ part s.memory (tx.place (tx_setup s.registers) + o) n
-    → length_of (tx_octets (tx_setup t.registers) t.memory) ≡ length_of (there s s)
-long_there s t o n low high end place octets =
-    ap length_of (octets_there s t place)
-    ∙ length_of_tx s.memory t.memory (tx.place (tx_setup s.registers)) o n low high end octets
+-- what is looked at of a descriptor with too many octets: its length alone in the first profile, its address too in the
+-- second
+long_place : (p : Profile) (s t : State) (i at n : ℕ) → SameLooks s t (refused_looks (too_long p i at n))
+    → SameLooks s t tx_place
+long_place Table s t i at n looks = looks.1
+long_place Adapter s t i at n looks = looks.1
 
-format_there : (s t : State) → SameLooks s t tx_place
-    → part t.memory (tx.place (tx_setup s.registers) + 11) 1 ≡ part s.memory (tx.place (tx_setup s.registers) + 11) 1
-    → dext (tx_octets (tx_setup t.registers) t.memory) ≡ dext (there s s)
-format_there s t place octets =
-    ap dext (octets_there s t place) ∙ dext_of_tx s.memory t.memory (tx.place (tx_setup s.registers)) octets
+long_before : (p : Profile) (s t : State) (i at n : ℕ) → SameLooks s t (looks_before (too_long p i at n))
+    → part t.memory (at + 11) 1 ≡ part s.memory (at + 11) 1
+long_before Table s t i at n looks = looks.0
+long_before Adapter s t i at n looks = looks.0
 
-address_there : (s t : State) → SameLooks s t tx_place
+-- the address and the length, by the first ten octets
+ten_alike : (p : Profile) (m w : List ℕ) (a : ℕ) → part w (a + 0) 10 ≡ part m (a + 0) 10
+    → length_of (as_read p (part w a 16)) ≡ length_of (as_read p (part m a 16))
+ten_alike p m w a octets =
+    length_alike p (part w a 16) (part m a 16) (address_of_tx m w a octets)
+    (length_of_tx m w a 0 10 (omega arith) (omega arith) (omega arith) octets)
+
+long_by : (p : Profile) (s t : State) (i at n : ℕ) → SameLooks s t (refused_looks (too_long p i at n))
+    → length_of (as_read p (part t.memory at 16)) ≡ length_of (as_read p (part s.memory at 16))
+long_by Table s t i at n looks =
+    ap length_of (read_plainly (part t.memory at 16))
+    ∙ length_of_tx s.memory t.memory at 8 2 (omega arith) (omega arith) (omega arith) looks.0
+    ∙ sym (ap length_of (read_plainly (part s.memory at 16)))
+long_by Adapter s t i at n looks = ten_alike Adapter s.memory t.memory at looks.0
+
+long_there : (s t : State) → t.profile ≡ s.profile → SameLooks s t (refused_looks (three_of s))
+    → length_of (octets_of t) ≡ length_of (octets_of s)
+long_there s t profile looks =
+    ap length_of (octets_there s t profile (long_place s.profile s t _ _ _ looks)) ∙ long_by s.profile s t _ _ _ looks
+
+-- the length, and the address, by the look at ten octets
+length_there : (s t : State) → t.profile ≡ s.profile → SameLooks s t tx_place
     → part t.memory (tx.place (tx_setup s.registers) + 0) 10 ≡ part s.memory (tx.place (tx_setup s.registers) + 0) 10
-    → address (tx_octets (tx_setup t.registers) t.memory) ≡ address (there s s)
-address_there s t place octets =
-    ap address (octets_there s t place) ∙ address_of_tx s.memory t.memory (tx.place (tx_setup s.registers)) octets
+    → length_of (octets_of t) ≡ length_of (octets_of s)
+length_there s t profile place octets =
+    ap length_of (octets_there s t profile place)
+    ∙ ten_alike s.profile s.memory t.memory (tx.place (tx_setup s.registers)) octets
+
+address_there : (s t : State) → t.profile ≡ s.profile → SameLooks s t tx_place
+    → part t.memory (tx.place (tx_setup s.registers) + 0) 10 ≡ part s.memory (tx.place (tx_setup s.registers) + 0) 10
+    → address (octets_of t) ≡ address (octets_of s)
+address_there s t profile place octets =
+    ap address (octets_there s t profile place)
+    ∙ address_read s.profile (there s t)
+    ∙ address_of_tx s.memory t.memory (tx.place (tx_setup s.registers)) octets
+    ∙ sym (address_read s.profile (there s s))
 
 -- the first three
-three_again : (s t : State) (r : Refused) → bounds_of t ≡ bounds_of s
+three_again : (s t : State) (r : Refused) → t.profile ≡ s.profile → bounds_of t ≡ bounds_of s
     → length t.gathered ≡ length s.gathered → SameLooks s t (refused_looks (three_of s))
     → SameLooks s t (looks_before (three_of s)) → is_three s ≡ true → first_of (tx_rows s) ≡ Some r
     → first_of (tx_rows t) ≡ Some r
-three_again s t r size earlier looks before holds found =
-    let place = looks.1 in
+three_again s t r profile size earlier looks before holds found =
+    let place = long_place s.profile s t _ _ _ looks in
     let behind_two = λ (o : Option Refused). if is_one s then Some (one_of s) else if is_two s then Some (two_of s) else o in
-    front_three (drop 3 (tx_rows t)) size place.1.1.0 (tx_at s t place) (format_there s t place before.0) earlier
-    (long_there s t 8 2 (omega arith) (omega arith) (omega arith) place looks.0)
+    front_three (drop 3 (tx_rows t)) size profile place.1.1.0 (tx_at s t place)
+    (format_there s t profile place (long_before s.profile s t _ _ _ before)) earlier (long_there s t profile looks)
     ∙ ap behind_two (decides (is_three s, three_of s) (drop 3 (tx_rows t)) (drop 3 (tx_rows s)) holds)
     ∙ found
 
 -- all four
-four_again : (s t : State) (r : Refused) → bounds_of t ≡ bounds_of s
+four_again : (s t : State) (r : Refused) → t.profile ≡ s.profile → bounds_of t ≡ bounds_of s
     → length t.gathered ≡ length s.gathered → SameLooks s t (refused_looks (four_of s))
     → SameLooks s t (looks_before (four_of s)) → first_of (tx_rows s) ≡ Some r → first_of (tx_rows t) ≡ Some r
-four_again s t r size earlier looks before found =
+four_again s t r profile size earlier looks before found =
     let place = looks.1 in
-    front_four size place.1.1.0 (tx_at s t place) (format_there s t place before.0) earlier
-    (long_there s t 0 10 (omega arith) (omega arith) (omega arith) place looks.0) (address_there s t place looks.0)
+    front_four size profile place.1.1.0 (tx_at s t place) (format_there s t profile place before.0) earlier
+    (length_there s t profile place looks.0) (address_there s t profile place looks.0)
     ∙ found
 
 before_as : (s t : State) (x r : Refused) → x ≡ r → SameLooks s t (looks_before r) → SameLooks s t (looks_before x)
 before_as s t x r same = subst (λ (y : Refused). SameLooks s t (looks_before y)) (sym same)
 
 stay_transmitting : (s t : State) (r : Refused) → why s transmits ≡ Some r → SameLooks s t (refused_looks r)
-    → SameLooks s t (looks_before r) → bounds_of t ≡ bounds_of s → length t.gathered ≡ length s.gathered
-    → IsBusy t transmits → why t transmits ≡ Some r
-stay_transmitting s t r is looks before size earlier runs =
-    let found = not_idle (tx.is_idle (tx_setup s.registers)) (tx_rows s) r is in
-    busy (tx.is_idle (tx_setup t.registers)) (tx_rows t) (tx_busy t runs)
+    → SameLooks s t (looks_before r) → t.profile ≡ s.profile → bounds_of t ≡ bounds_of s
+    → length t.gathered ≡ length s.gathered → IsBusy t transmits → why t transmits ≡ Some r
+stay_transmitting s t r is looks before profile size earlier runs =
+    let found = not_idle (is_still (tx_control s)) (tx_rows s) r is in
+    busy (is_still (tx_control t)) (tx_rows t) (tx_busy t runs)
     ∙ elim (first_holds s r found) [
       | inl one ↦ one_again s t r size (looks_as s t _ r one.1 looks) one.0 found
       | inr later ↦ elim later [
-        | inl two ↦ two_again s t r size (looks_as s t _ r two.1 looks) two.0 found
+        | inl two ↦ two_again s t r profile size (looks_as s t _ r two.1 looks) two.0 found
         | inr later ↦ elim later [
-          | inl three ↦ three_again s t r size earlier (looks_as s t _ r three.1 looks)
+          | inl three ↦ three_again s t r profile size earlier (looks_as s t _ r three.1 looks)
               (before_as s t _ r three.1 before) three.0 found
-          | inr four ↦ four_again s t r size earlier (looks_as s t _ r four.1 looks) (before_as s t _ r four.1 before)
-              found
+          | inr four ↦ four_again s t r profile size earlier (looks_as s t _ r four.1 looks)
+              (before_as s t _ r four.1 before) found
         ]
       ]
     ]
@@ -429,48 +468,62 @@ stays_refused_so s t (arrives f) r is looks before profile size earlier runs = i
 stays_refused_so s t (links up) r is looks before profile size earlier runs = cc
 stays_refused_so s t receives r is looks before profile size earlier runs = stay_receiving s t r is looks size runs
 stays_refused_so s t transmits r is looks before profile size earlier runs =
-    stay_transmitting s t r is looks before size earlier runs
+    stay_transmitting s t r is looks before profile size earlier runs
 
 -- ---- for whatever reason
 some_of : (o : Option Refused) (r : Refused) → o ≡ Some r → is_some o ≡ true
 some_of o r is = ap is_some is
 
+or_true : (b : Bool) → (b || true) ≡ true
+or_true true = refl
+or_true false = refl
+
 -- more octets that are gathered are too many as well
-more : (g h n k : ℕ) → g ≤ h → k ≡ n → nat_lt 16380 (g + n) ≡ true → nat_lt 16380 (h + k) ≡ true
-more g h n k less same holds = grind (arith, nat_tests)
+more : (g h n : ℕ) (over : Bool) → g ≤ h → (nat_lt 16380 (g + n) || over) ≡ true → (nat_lt 16380 (h + n) || over) ≡ true
+more g h n over less holds = elim (cases_lt 16380 (g + n)) [
+  | inl many ↦
+      let yes : nat_lt 16380 (h + n) ≡ true = grind (arith, nat_tests) in ap (λ (b : Bool). b || over) yes
+  | inr few ↦
+      let no : nat_lt 16380 (g + n) ≡ false = grind (arith, nat_tests) in
+      let one : over ≡ true = sym (ap (λ (b : Bool). b || over) no) ∙ holds in
+      ap (λ (b : Bool). nat_lt 16380 (h + n) || b) one ∙ or_true (nat_lt 16380 (h + n))
+]
 
-three_holds : (s t : State) → length s.gathered ≤ length t.gathered → SameLooks s t (refused_looks (three_of s))
-    → is_three s ≡ true → is_some (first_of (tx_rows t)) ≡ true
-three_holds s t earlier looks holds =
+three_holds : (s t : State) → t.profile ≡ s.profile → length s.gathered ≤ length t.gathered
+    → SameLooks s t (refused_looks (three_of s)) → is_three s ≡ true → is_some (first_of (tx_rows t)) ≡ true
+three_holds s t profile earlier looks holds =
     some_where (tx_rows t) 2 _ refl
-    (more (length s.gathered) (length t.gathered) _ _ earlier
-    (long_there s t 8 2 (omega arith) (omega arith) (omega arith) looks.1 looks.0) holds)
+    (ap (λ (n : ℕ). nat_lt 16380 (length t.gathered + n) || is_over t.profile n) (long_there s t profile looks)
+    ∙ ap (λ (p : Profile). nat_lt 16380 (length t.gathered + length_of (octets_of s)) || is_over p (length_of (octets_of s))) profile
+    ∙ more (length s.gathered) (length t.gathered) (length_of (octets_of s)) (is_over s.profile (length_of (octets_of s)))
+    earlier holds)
 
-four_holds : (s t : State) → bounds_of t ≡ bounds_of s → SameLooks s t (refused_looks (four_of s))
-    → is_four s ≡ true → is_some (first_of (tx_rows t)) ≡ true
-four_holds s t size looks holds =
-    let d = tx_octets (tx_setup t.registers) t.memory in
-    let n = long_there s t 0 10 (omega arith) (omega arith) (omega arith) looks.1 looks.0 in
-    let a = address_there s t looks.1 looks.0 in
+four_holds : (s t : State) → t.profile ≡ s.profile → bounds_of t ≡ bounds_of s
+    → SameLooks s t (refused_looks (four_of s)) → is_four s ≡ true → is_some (first_of (tx_rows t)) ≡ true
+four_holds s t profile size looks holds =
+    let d = octets_of t in
+    let n = length_there s t profile looks.1 looks.0 in
+    let a = address_there s t profile looks.1 looks.0 in
     some_where (tx_rows t) 3 _ refl
     (ap (λ (v : ℕ). nat_lt 0 v && is_past (bounds_of t) (address d) v) n
-    ∙ ap (λ (v : ℕ). nat_lt 0 (length_of (there s s)) && is_past (bounds_of t) v (length_of (there s s))) a
-    ∙ ap (λ (v : Bounds). nat_lt 0 (length_of (there s s)) && is_past v (address (there s s)) (length_of (there s s))) size
+    ∙ ap (λ (v : ℕ). nat_lt 0 (length_of (octets_of s)) && is_past (bounds_of t) v (length_of (octets_of s))) a
+    ∙ ap (λ (v : Bounds). nat_lt 0 (length_of (octets_of s)) && is_past v (address (octets_of s)) (length_of (octets_of s)))
+    size
     ∙ holds)
 
 keep_transmitting : (s t : State) (r : Refused) → why s transmits ≡ Some r → SameLooks s t (refused_looks r)
-    → bounds_of t ≡ bounds_of s → length s.gathered ≤ length t.gathered → IsBusy t transmits
+    → t.profile ≡ s.profile → bounds_of t ≡ bounds_of s → length s.gathered ≤ length t.gathered → IsBusy t transmits
     → is_some (why t transmits) ≡ true
-keep_transmitting s t r is looks size earlier runs =
-    let found = not_idle (tx.is_idle (tx_setup s.registers)) (tx_rows s) r is in
-    ap is_some (busy (tx.is_idle (tx_setup t.registers)) (tx_rows t) (tx_busy t runs))
+keep_transmitting s t r is looks profile size earlier runs =
+    let found = not_idle (is_still (tx_control s)) (tx_rows s) r is in
+    ap is_some (busy (is_still (tx_control t)) (tx_rows t) (tx_busy t runs))
     ∙ elim (first_holds s r found) [
       | inl one ↦ some_of _ r (one_again s t r size (looks_as s t _ r one.1 looks) one.0 found)
       | inr later ↦ elim later [
-        | inl two ↦ some_of _ r (two_again s t r size (looks_as s t _ r two.1 looks) two.0 found)
+        | inl two ↦ some_of _ r (two_again s t r profile size (looks_as s t _ r two.1 looks) two.0 found)
         | inr later ↦ elim later [
-          | inl three ↦ three_holds s t earlier (looks_as s t _ r three.1 looks) three.0
-          | inr four ↦ four_holds s t size (looks_as s t _ r four.1 looks) four.0
+          | inl three ↦ three_holds s t profile earlier (looks_as s t _ r three.1 looks) three.0
+          | inr four ↦ four_holds s t profile size (looks_as s t _ r four.1 looks) four.0
         ]
       ]
     ]
@@ -494,7 +547,8 @@ keeps s t (pokes a octets) r is looks profile size earlier runs =
 keeps s t (arrives f) r is looks profile size earlier runs = ap is_some is
 keeps s t (links up) r is looks profile size earlier runs = cc
 keeps s t receives r is looks profile size earlier runs = ap is_some (stay_receiving s t r is looks size runs)
-keeps s t transmits r is looks profile size earlier runs = keep_transmitting s t r is looks size earlier runs
+keeps s t transmits r is looks profile size earlier runs =
+    keep_transmitting s t r is looks profile size earlier runs
 
 pub stays_refused : (s t : State) (e : Event) (r : Refused) → why s e ≡ Some r → SameLooks s t (refused_looks r)
     → t.profile ≡ s.profile → bounds_of t ≡ bounds_of s → length s.gathered ≤ length t.gathered → IsBusy t e

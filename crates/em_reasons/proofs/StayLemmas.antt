@@ -1,11 +1,14 @@
 -- As long as what a test looked at stays, a step stays idle.
 use Rattle.std.proofs.Common.{◌≡◌, ◌∙◌, ℕ, zero, suc, Bool, true, false, List, [], ◌∷◌, Option, Some, refl}
 use Rattle.std.proofs.Common.{length, sym, ap, subst}
-use Rattle.std.specs.Prelude.{◌/◌, ◌==◌, nat_le, not, is_some, slice_get, if◌then◌else◌}
-use Rattle.em_regs.specs.declared.reg.Reg.TheVariants.{Rdlen, Rdh, Rdt, Tdlen, Tdh, Tdt}
+use Rattle.std.specs.Prelude.{◌/◌, ◌%◌, ◌^◌, ◌==◌, ◌&&◌, nat_le, not, is_some, slice_get, if◌then◌else◌}
+use Rattle.em_regs.specs.declared.profile.Profile.{Profile}
+use Rattle.em_regs.specs.declared.reg.Reg.TheVariants.{Rctl, Rdlen, Rdh, Rdt, Tdlen, Tdh, Tdt}
 use Rattle.em_regs.specs.Setup.{rx_setup, tx_setup, value_of}
 use Rattle.em_rx.specs.Fifo.{Fifo}
-use Rattle.em_step.specs.State.{State}
+use Rattle.em_step.specs.Engines.{is_halted}
+use Rattle.em_step.specs.Loops.{mac_loops}
+use Rattle.em_step.specs.State.{State, is_adapter}
 use Rattle.em_reasons.specs.Looks.{rx_idle_looks, tx_idle_looks}
 use Rattle.em_reasons.specs.SameLooks.{SameLooks}
 use Rattle.em_reasons.specs.Table.{first_of}
@@ -13,6 +16,8 @@ use Rattle.em_reasons.specs.declared.rx_idle.RxIdle.{RxIdle}
 use Rattle.em_reasons.specs.declared.tx_idle.TxIdle.{TxIdle}
 use Rattle.em_reasons.specs.RxIdle.{IsIdleReceiving, rx_idle, rx_idle_table}
 use Rattle.em_reasons.specs.TxIdle.{IsIdleSending, tx_idle, tx_idle_table}
+use Rattle.em_reasons.proofs.BitLemmas.{field_same}
+use Rattle.em_reasons.proofs.LinkLemmas.{link_same}
 use Rattle.em_reasons.proofs.TableLemmas.{gives_first}
 use Rattle.em_reasons.proofs.IdleLemmas.{rx_idle_where, tx_idle_where}
 
@@ -95,7 +100,7 @@ stays_idle_receiving s t r is same =
 
 -- ---- transmit steps
 abbrev tx_rows : State → List (Bool × TxIdle)
-tx_rows s = tx_idle_table (tx_setup s.registers)
+tx_rows s = tx_idle_table (tx_setup s.registers) (is_halted s)
 
 tx_holds : (s : State) (b : Bool) (x r : TxIdle) → row b x ≡ row true r → b ≡ true
 tx_holds s b x r h = ap (λ (p : Bool × TxIdle). p.0) (row_is (b, x) (true, r) h)
@@ -107,36 +112,47 @@ tx_same s t b x r h =
     (sym (ap (λ (p : Bool × TxIdle). p.1) (row_is (b, x) (true, r) h)))
 
 tx_again : (s t : State) (k : ℕ) (r : TxIdle) → slice_get (tx_rows s) k ≡ Some (true, r)
-    → SameLooks s t (tx_idle_looks r) → is_some (tx_idle t) ≡ true
-tx_again s t zero r h same =
+    → SameLooks s t (tx_idle_looks r) → t.profile ≡ s.profile → is_some (tx_idle t) ≡ true
+tx_again s t zero r h same profile =
     let looks = tx_same s t _ _ r h same in
     some_where (tx_rows t) 0 _ refl
     (ap (λ (v : ℕ). not (v == 0x2)) looks.0 ∙ tx_holds s _ _ r h)
-tx_again s t (suc zero) r h same =
+tx_again s t (suc zero) r h same profile =
     let looks = tx_same s t _ _ r h same in
     some_where (tx_rows t) 1 _ refl (ap (λ (v : ℕ). (v / 16) == 0) looks.0 ∙ tx_holds s _ _ r h)
-tx_again s t (suc (suc zero)) r h same =
+tx_again s t (suc (suc zero)) r h same profile =
     let looks = tx_same s t _ _ r h same in
     some_where (tx_rows t) 2 _ refl
     (ap (λ (v : ℕ). nat_le (value_of t.registers Tdlen / 16) v) looks.0
     ∙ ap (λ (v : ℕ). nat_le (v / 16) (value_of s.registers Tdh)) looks.1.0
     ∙ tx_holds s _ _ r h)
-tx_again s t (suc (suc (suc zero))) r h same =
+tx_again s t (suc (suc (suc zero))) r h same profile =
     let looks = tx_same s t _ _ r h same in
     some_where (tx_rows t) 3 _ refl
     (ap (λ (v : ℕ). nat_le (value_of t.registers Tdlen / 16) v) looks.0
     ∙ ap (λ (v : ℕ). nat_le (v / 16) (value_of s.registers Tdt)) looks.1.0
     ∙ tx_holds s _ _ r h)
-tx_again s t (suc (suc (suc (suc zero)))) r h same =
+tx_again s t (suc (suc (suc (suc zero)))) r h same profile =
     let looks = tx_same s t _ _ r h same in
     some_where (tx_rows t) 4 _ refl
     (ap (λ (v : ℕ). v == value_of t.registers Tdt) looks.0
     ∙ ap (λ (v : ℕ). value_of s.registers Tdh == v) looks.1.0
     ∙ tx_holds s _ _ r h)
-tx_again s t (suc (suc (suc (suc (suc k))))) r h same = cc
+tx_again s t (suc (suc (suc (suc (suc zero))))) r h same profile =
+    let looks = tx_same s t _ _ r h same in
+    let v = value_of t.registers Rctl in
+    let w = value_of s.registers Rctl in
+    let lbm : v / 2 ^ 6 % 4 ≡ w / 2 ^ 6 % 4 = field_same 2 6 v w looks.1.0 in
+    some_where (tx_rows t) 5 _ refl
+    (ap (λ (p : Profile). is_adapter p && (not t.link && not (mac_loops t))) profile
+    ∙ ap (λ (b : Bool). is_adapter s.profile && (not b && not (mac_loops t)))
+    (link_same t.profile s.profile t.link s.link looks.0)
+    ∙ ap (λ (n : ℕ). is_adapter s.profile && (not s.link && not (not (n == 0)))) lbm
+    ∙ tx_holds s _ _ r h)
+tx_again s t (suc (suc (suc (suc (suc (suc k)))))) r h same profile = cc
 
 pub stays_idle_sending : (s t : State) (r : TxIdle) → tx_idle s ≡ Some r → SameLooks s t (tx_idle_looks r)
-    → IsIdleSending t
-stays_idle_sending s t r is same =
+    → t.profile ≡ s.profile → IsIdleSending t
+stays_idle_sending s t r is same profile =
     let found = (gives_first TxIdle (tx_rows s) r).0 is in
-    (tx_idle_where t (tx_idle t) refl).0 (tx_again s t found.0 r found.1.holds same)
+    (tx_idle_where t (tx_idle t) refl).0 (tx_again s t found.0 r found.1.holds same profile)

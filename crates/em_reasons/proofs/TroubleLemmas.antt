@@ -5,13 +5,16 @@ use Rattle.std.specs.Prelude.{◌==◌, ◌&&◌, ◌||◌, nat_le, nat_lt, min,
 use Rattle.std.proofs.lemmas.Bool.Decides.{nat_tests}
 use Rattle.em_mem.specs.Memory.{leaves, part}
 use Rattle.em_mem.proofs.NeedsLaws.{lies_by_test, stays_in}
+use Rattle.em_regs.specs.declared.profile.Profile.{Profile}
 use Rattle.em_regs.specs.declared.ring.Ring.{Ring}
 use Rattle.em_regs.specs.Ring as ring
 use Rattle.em_regs.specs.Setup.{rx_setup, tx_setup}
 use Rattle.em_rx.specs.Fifo.{rest}
 use Rattle.em_rx.specs.Receive as rx
+use Rattle.em_tx.specs.Control.{is_over, is_still}
 use Rattle.em_tx.specs.Descriptor.{address, dext, length_of}
 use Rattle.em_tx.specs.Ring as tx
+use Rattle.em_step.specs.Engines.{is_halted, tx_control}
 use Rattle.em_step.specs.Event.{receives, transmits}
 use Rattle.em_step.specs.State.{State}
 use Rattle.em_step.specs.Step.{step}
@@ -27,10 +30,11 @@ use Rattle.em_inspect.specs.Ring.{extent_of, fields_in, is_adapters, owner_of, r
 use Rattle.em_inspect.specs.Trouble.{buffer_of, is_live, live_trouble, lowest_over, or_else, trouble_in}
 use Rattle.em_reasons.specs.declared.refused.Bounds.{Bounds}
 use Rattle.em_reasons.specs.declared.refused.Refused.TheVariants.{RxDescriptor, RxBuffer, TxDescriptor, TxBuffer}
-use Rattle.em_reasons.specs.declared.refused.Refused.TheVariants.{Extended, TooLong}
-use Rattle.em_reasons.specs.Foretold.{FillsBuffer, IsLongAlone, foretold, refusal_in, rx_trouble, tx_trouble}
-use Rattle.em_reasons.specs.Refused.{IsBusy, bounds_of, refusal_of, rx_table, tx_octets, tx_table}
-use Rattle.em_reasons.proofs.RefusalLemmas.{refusal_said, said}
+use Rattle.em_reasons.specs.declared.refused.Refused.TheVariants.{Extended}
+use Rattle.em_reasons.specs.Foretold.{FillsBuffer, IsLongAlone, IsReadPlainly, foretold, refusal_in, rx_trouble}
+use Rattle.em_reasons.specs.Foretold.{there, tx_trouble}
+use Rattle.em_reasons.specs.Refused.{IsBusy, bounds_of, refusal_of, rx_table, too_long, tx_octets, tx_table}
+use Rattle.em_reasons.proofs.RefusalLemmas.{long_refusal, refusal_said, said}
 use Rattle.em_reasons.proofs.RefusedStay.{busy, rx_busy, tx_busy}
 
 -- ---- the descriptor at the head of a ring that is not idle is the adapter's
@@ -168,14 +172,18 @@ tx_said outside extended long buffer =
     else if buffer then Some refusal.DmaRange
     else None
 
-tx_rows_said : (a e l b : Bool) (i at : ℕ) (size : Bounds) (n place : ℕ)
-    → said ((a, TxDescriptor i at size) ∷ (e, Extended i at) ∷ (l, TooLong i at n) ∷ (b, TxBuffer i at place n size) ∷ [])
+tx_rows_said : (p : Profile) (a e l b : Bool) (i at : ℕ) (size : Bounds) (n place : ℕ)
+    → said ((a, TxDescriptor i at size) ∷ (e, Extended i at) ∷ (l, too_long p i at n) ∷ (b, TxBuffer i at place n size) ∷ [])
     ≡ tx_said a e l b
-tx_rows_said true e l b i at size n place = refl
-tx_rows_said false true l b i at size n place = refl
-tx_rows_said false false true b i at size n place = refl
-tx_rows_said false false false true i at size n place = refl
-tx_rows_said false false false false i at size n place = refl
+tx_rows_said p true e l b i at size n place = refl
+tx_rows_said p false true l b i at size n place = refl
+tx_rows_said p false false true b i at size n place = ap Some (long_refusal p i at n)
+tx_rows_said p false false false true i at size n place = refl
+tx_rows_said p false false false false i at size n place = refl
+
+or_false : (b : Bool) → (b || false) ≡ b
+or_false true = refl
+or_false false = refl
 
 abbrev sent_told : Bool → Bool → Bool → Option Trouble → Option Trouble
 sent_told extended empty long buffer =
@@ -229,7 +237,7 @@ abbrev tx_told : State → Option Trouble
 tx_told s =
     let q = tx_setup s.registers in
     let r = tx_ring q in
-    let d = tx_octets q s.memory in
+    let d = there s in
     let buffer = buffer_of r.side (fields_in r.side d) in
     if leaves s.base s.memory (tx.place q) 16 then Some trouble.Outside
     else sent_told (dext d) (length_of d == 0) (nat_lt 16380 (length_of d))
@@ -241,26 +249,32 @@ unfolding dext
 tx_told_so s runs =
     let q = tx_setup s.registers in
     let r = tx_ring q in
-    let d = tx_octets q s.memory in
+    let d = there s in
     let outside = leaves s.base s.memory (tx.place q) 16 in
     let buffer = buffer_of r.side (fields_in r.side d) in
-    of_octets r s.base s.memory q.head outside d (owner_by _ (head_is_adapters r.setup (tx_busy s runs)))
+    of_octets r s.base s.memory q.head outside d
+    (owner_by _ (head_is_adapters r.setup (first_false (tx.is_idle q) (is_halted s) (tx_busy s runs))))
     ∙ ap (λ (o : Option Trouble). if outside then Some trouble.Outside else o)
     (sent_by (dext d) (length_of d == 0) (nat_lt 16380 (length_of d))
     (buffer_told (leaves s.base s.memory (address d) (length_of d)) (overlaps buffer (extent_of r.setup))
     (lowest_over r s.base s.memory q.head buffer)))
 
-pub transmits_as_told : (s : State) → IsBusy s transmits → IsLongAlone s
+pub transmits_as_told : (s : State) → IsBusy s transmits → IsLongAlone s → IsReadPlainly s
     → refusal_in (step s transmits) ≡ foretold (tx_trouble s)
-transmits_as_told s runs alone =
+transmits_as_told s runs alone plainly =
     let q = tx_setup s.registers in
-    let d = tx_octets q s.memory in
+    let d = there s in
     let n = length_of d in
     let out = leaves s.base s.memory (address d) n in
+    let table = λ (x : List ℕ). tx_table s.profile q (bounds_of s) s.gathered x in
+    let few : (nat_lt 16380 (length s.gathered + n) || is_over s.profile n) ≡ nat_lt 16380 (length s.gathered + n)
+    = ap (λ (b : Bool). nat_lt 16380 (length s.gathered + n) || b) plainly.few ∙ or_false _ in
     sym (refusal_said s transmits)
-    ∙ ap (option_map refusal_of) (busy (tx.is_idle q) (tx_table q (bounds_of s) s.gathered d) (tx_busy s runs))
-    ∙ tx_rows_said (leaves s.base s.memory (tx.place q) 16) (dext d) (nat_lt 16380 (length s.gathered + n)) (nat_lt 0 n && out) _ _
-    _ _ _
+    ∙ ap (option_map refusal_of) (busy (is_still (tx_control s)) (table (tx_octets s.profile q s.memory)) (tx_busy s runs))
+    ∙ ap (λ (x : List ℕ). said (table x)) plainly.read
+    ∙ tx_rows_said s.profile (leaves s.base s.memory (tx.place q) 16) (dext d)
+    (nat_lt 16380 (length s.gathered + n) || is_over s.profile n) (nat_lt 0 n && out) _ _ _ _ _
+    ∙ ap (λ (b : Bool). tx_said (leaves s.base s.memory (tx.place q) 16) (dext d) b (nat_lt 0 n && out)) few
     ∙ tx_by _ _ (n == 0) (nat_lt 16380 n) out _ _ (nat_lt 0 n) _ (empty_none n) (empty_any n) (empty_short n) alone
     (longer (length s.gathered) n)
     ∙ ap foretold (sym (tx_told_so s runs))

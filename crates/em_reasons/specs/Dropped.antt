@@ -10,6 +10,7 @@ use Rattle.em_filter.specs.Control.{is_other_control, passes_dpf}
 use Rattle.em_filter.specs.Filters.{longest, passes_address}
 use Rattle.em_filter.specs.Vlan.{cfi_of, passes_cfi, passes_vlan, tag_of}
 use Rattle.em_regs.specs.declared.profile.Profile.{Profile}
+use Rattle.em_regs.specs.declared.profile.Profile.TheVariants.{Table, Adapter}
 use Rattle.em_regs.specs.Storage.{Registers}
 use Rattle.em_rx.specs.Frame.{len_of}
 use Rattle.em_step.specs.Arrival.{arrival, is_enabled, kept_frame, lacks_room}
@@ -19,7 +20,7 @@ use Rattle.em_step.specs.declared.event.Reason.{Reason}
 use Rattle.em_step.specs.declared.event.Reason.TheVariants as reason
 use Rattle.em_reasons.specs.declared.dropped.Dropped.{Dropped}
 use Rattle.em_reasons.specs.declared.dropped.Dropped.TheVariants.{Down, Disabled, Unicast, Multicast, Broadcast, Control}
-use Rattle.em_reasons.specs.declared.dropped.Dropped.TheVariants.{Undersize, Oversize, Vlan, Cfi, Pause, Missed}
+use Rattle.em_reasons.specs.declared.dropped.Dropped.TheVariants.{Undersize, Oversize, Overlong, Vlan, Cfi, Pause, Missed}
 use Rattle.em_reasons.specs.Table.{first_of}
 
 -- the first six octets of a frame, and the next six
@@ -45,6 +46,14 @@ unfiltered_so false m to = unfiltered_by (kind_of (destination to)) m to
 abbrev pub unfiltered : Profile → Registers → List ℕ → Dropped
 unfiltered p m f = unfiltered_so (is_second p && is_other_control f) m (to_of f)
 
+-- a frame of so many octets is too long: the second profile looks at SBP, too
+abbrev pub too_long_by : Profile → ℕ → ℕ → Dropped
+too_long_by Table n most = Oversize n most
+too_long_by Adapter n most = Overlong n most
+
+abbrev pub too_long : State → ℕ → Dropped
+too_long s n = too_long_by s.profile n (longest s.profile s.registers)
+
 -- the VLAN filter does not let the frame pass
 abbrev pub unlisted : List ℕ → Dropped
 unlisted f = Vlan (tag_of f % 4096)
@@ -58,7 +67,7 @@ drop_table s f =
     ∷ (not (is_enabled s), Disabled)
     ∷ (not (passes_address s.profile s.registers f), unfiltered s.profile s.registers f)
     ∷ (nat_lt (length f + 4) 64, Undersize (length f + 4))
-    ∷ (nat_lt (longest s.registers) (length f + 4), Oversize (length f + 4) (longest s.registers))
+    ∷ (nat_lt (longest s.profile s.registers) (length f + 4), too_long s (length f + 4))
     ∷ (not (passes_vlan s.registers f), unlisted f)
     ∷ (not (passes_cfi s.profile s.registers f), Cfi (cfi_of f))
     ∷ (not (passes_dpf s.profile s.registers f), Pause)
@@ -87,6 +96,7 @@ reason_of (Broadcast hash) = reason.Rejected
 reason_of (Control to hash) = reason.Rejected
 reason_of (Undersize octets) = reason.Undersize
 reason_of (Oversize octets most) = reason.Oversize
+reason_of (Overlong octets most) = reason.Oversize
 reason_of (Vlan identifier) = reason.Rejected
 reason_of (Cfi cfi) = reason.Rejected
 reason_of Pause = reason.Rejected

@@ -2,7 +2,7 @@
 use Rattle.std.specs.Prelude.{ℕ, ◌==◌, if◌then◌else◌, Bool, true, false, List, [], ◌++◌, codes, decimal}
 use Rattle.em_reasons.specs.declared.dropped.Dropped.{Dropped}
 use Rattle.em_reasons.specs.declared.dropped.Dropped.TheVariants.{Down, Disabled, Unicast, Multicast, Broadcast, Control}
-use Rattle.em_reasons.specs.declared.dropped.Dropped.TheVariants.{Undersize, Oversize, Vlan, Cfi, Pause, Missed}
+use Rattle.em_reasons.specs.declared.dropped.Dropped.TheVariants.{Undersize, Oversize, Overlong, Vlan, Cfi, Pause, Missed}
 use Rattle.em_reasons.specs.Bits.{bit_of, word_of}
 use Rattle.em_pieces.specs.Piece.{mac_text}
 
@@ -25,13 +25,13 @@ broadcast_text hash =
     ++ (decimal (word_of hash)
     ++ (codes "] bit " ++ (decimal (bit_of hash) ++ codes " is clear, MPE is clear, BAM is clear)")))
 
--- the most octets that there may be are these with LPE clear
-abbrev pub most_text : ℕ → List ℕ
-most_text most = if most == 1522 then codes ", LPE is clear" else []
+-- the most octets that there may be are these with LPE clear, and in the second profile with SBP clear
+abbrev pub most_text : List ℕ → ℕ → List ℕ
+most_text clear most = if most == 1522 then clear else []
 
-abbrev pub long_text : ℕ → ℕ → List ℕ
-long_text octets most =
-    decimal octets ++ (codes " octets with the FCS are above " ++ (decimal most ++ most_text most))
+abbrev pub long_text : ℕ → ℕ → List ℕ → List ℕ
+long_text octets most clear =
+    decimal octets ++ (codes " octets with the FCS are above " ++ (decimal most ++ most_text clear most))
 
 -- the VLAN of an identifier has no bit
 abbrev pub vlan_text : ℕ → List ℕ
@@ -60,7 +60,8 @@ dropped_text (Multicast to hash) = group_text to hash
 dropped_text (Broadcast hash) = broadcast_text hash
 dropped_text (Control to hash) = control_text to
 dropped_text (Undersize octets) = decimal octets ++ codes " octets with the FCS are below 64"
-dropped_text (Oversize octets most) = long_text octets most
+dropped_text (Oversize octets most) = long_text octets most (codes ", LPE is clear")
+dropped_text (Overlong octets most) = long_text octets most (codes ", LPE and SBP are clear")
 dropped_text (Vlan identifier) = vlan_text identifier
 dropped_text (Cfi cfi) = cfi_text cfi
 dropped_text Pause = codes "a pause frame (DPF is set)"

@@ -1,12 +1,15 @@
 -- What is wrong with the descriptor at a ring's head, and what the engine then does.
-use Rattle.std.specs.Prelude.{◌≡◌, ◌+◌, ◌≤◌, nat_lt, true, length, Option, Some, None, Result, Ok, Err}
+use Rattle.std.specs.Prelude.{◌≡◌, ◌+◌, ◌≤◌, ℕ, nat_lt, true, false, List, length, Option, Some, None, Result, Ok, Err}
+use Rattle.em_mem.specs.Memory.{part}
 use Rattle.em_regs.specs.Setup.{rx_setup, tx_setup}
 use Rattle.em_rx.specs.Fifo.{rest}
 use Rattle.em_step.specs.State.{State}
 use Rattle.em_step.specs.declared.event.Answer.{Answer}
 use Rattle.em_step.specs.declared.refusal.Refusal.{Refusal}
 use Rattle.em_step.specs.declared.refusal.Refusal.TheVariants as refusal
+use Rattle.em_tx.specs.Control.{is_over}
 use Rattle.em_tx.specs.Descriptor.{length_of}
+use Rattle.em_tx.specs.Ring as tx
 use Rattle.em_inspect.specs.declared.trouble.Trouble.{Trouble}
 use Rattle.em_inspect.specs.declared.trouble.Trouble.TheVariants as trouble
 use Rattle.em_inspect.specs.Ring.{rx_ring, tx_ring}
@@ -37,8 +40,16 @@ foretold _ = None
 abbrev pub FillsBuffer : State → Type 0
 FillsBuffer s = (rx_setup s.registers).buffer ≤ rest s.fifo
 
--- what earlier buffers of the frame have does not make the descriptor at TDH too long; the trouble counts it alone
+-- the descriptor at TDH, as it lies there
+abbrev pub there : State → List ℕ
+there s = part s.memory (tx.place (tx_setup s.registers)) 16
+
+-- what earlier buffers of the frame have does not make it too long; the trouble counts it alone
 abbrev pub IsLongAlone : State → Type 0
 IsLongAlone s =
-    nat_lt 16380 (length s.gathered + length_of (tx_octets (tx_setup s.registers) s.memory)) ≡ true
-    → nat_lt 16380 (length_of (tx_octets (tx_setup s.registers) s.memory)) ≡ true
+    nat_lt 16380 (length s.gathered + length_of (there s)) ≡ true → nat_lt 16380 (length_of (there s)) ≡ true
+
+-- the profile reads it as it lies there, and lets one descriptor have as many octets: so does the first profile always
+pub record IsReadPlainly (s : State) : Type 0 where
+  pub read : tx_octets s.profile (tx_setup s.registers) s.memory ≡ there s
+  pub few : is_over s.profile (length_of (there s)) ≡ false

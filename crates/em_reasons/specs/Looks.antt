@@ -23,15 +23,16 @@ rx_idle_looks (rx_idle.TailPast tail count) = Bits Rdt 0xFFFF ∷ Bits Rdlen 0x0
 rx_idle_looks (rx_idle.Empty at) = Bits Rdh 0xFFFF ∷ Bits Rdt 0xFFFF ∷ []
 rx_idle_looks rx_idle.NoFrame = Frames ∷ []
 
--- of the transmit ring: EN is bit 1 of TCTL
+-- of the transmit ring: EN is bit 1 of TCTL; of the link: LU is bit 1 of STATUS, and LBM is bits 7:6 of RCTL
 abbrev pub tx_idle_looks : TxIdle → List Look
 tx_idle_looks tx_idle.Disabled = Bits Tctl (2 ^ 1) ∷ []
 tx_idle_looks tx_idle.NoRing = Bits Tdlen 0x000F_FF80 ∷ []
 tx_idle_looks (tx_idle.HeadPast head count) = Bits Tdh 0xFFFF ∷ Bits Tdlen 0x000F_FF80 ∷ []
 tx_idle_looks (tx_idle.TailPast tail count) = Bits Tdt 0xFFFF ∷ Bits Tdlen 0x000F_FF80 ∷ []
 tx_idle_looks (tx_idle.Empty at) = Bits Tdh 0xFFFF ∷ Bits Tdt 0xFFFF ∷ []
+tx_idle_looks tx_idle.LinkDown = Bits Status (2 ^ 1) ∷ Bits Rctl 0xC0 ∷ []
 
--- of a frame: LU is bit 1 of STATUS; of RCTL, UPE is bit 3, MPE 4, LPE 5, MO 13:12, BAM 15, VFE 18, CFIEN 19, CFI
+-- of a frame: LU is bit 1 of STATUS; of RCTL, SBP is bit 2, UPE 3, MPE 4, LPE 5, MO 13:12, BAM 15, VFE 18, CFIEN 19, CFI
 -- 20, DPF 22, PMCF 23; the bit of a hash in the multicast table, and of an identifier in the VLAN filter table; VME, bit 30 of CTRL, and VET say how many
 -- octets are stored
 abbrev pub dropped_looks : Dropped → List Look
@@ -46,6 +47,7 @@ dropped_looks (dropped.Control to hash) =
     Bits Rctl (2 ^ 3 + 2 ^ 4 + 0x3000 + 2 ^ 15 + 2 ^ 23) ∷ Bits (Mta (word_of hash)) (2 ^ bit_of hash) ∷ Entries ∷ []
 dropped_looks (dropped.Undersize octets) = []
 dropped_looks (dropped.Oversize octets most) = Bits Rctl (2 ^ 5) ∷ []
+dropped_looks (dropped.Overlong octets most) = Bits Rctl (2 ^ 2 + 2 ^ 5) ∷ []
 dropped_looks (dropped.Vlan identifier) =
     Bits Rctl (2 ^ 18) ∷ Bits Vet 0xFFFF ∷ Bits (Vfta (word_of identifier)) (2 ^ bit_of identifier) ∷ []
 dropped_looks (dropped.Cfi cfi) = Bits Rctl (2 ^ 19 + 2 ^ 20) ∷ Bits Vet 0xFFFF ∷ []
@@ -72,11 +74,13 @@ refused_looks (refused.RxBuffer index at buffer size frame memory) =
 refused_looks (refused.TxDescriptor index at memory) = tx_place
 refused_looks (refused.Extended index at) = Octets at 11 1 ∷ tx_place
 refused_looks (refused.TooLong index at octets) = Octets at 8 2 ∷ tx_place
+refused_looks (refused.Overlong index at octets) = Octets at 0 10 ∷ tx_place
 refused_looks (refused.TxBuffer index at buffer octets memory) = Octets at 0 10 ∷ tx_place
 refused_looks refused.Memory = []
 
 -- what the tests before it look at besides: CMD (11), by which DEXT refuses first
 abbrev pub looks_before : Refused → List Look
 looks_before (refused.TooLong index at octets) = Octets at 11 1 ∷ []
+looks_before (refused.Overlong index at octets) = Octets at 11 1 ∷ []
 looks_before (refused.TxBuffer index at buffer octets memory) = Octets at 11 1 ∷ []
 looks_before _ = []

@@ -7,11 +7,14 @@ use Rattle.em_regs.specs.declared.setup.RxSetup.{RxSetup}
 use Rattle.em_regs.specs.declared.setup.TxSetup.{TxSetup}
 use Rattle.em_regs.specs.Setup.{rx_setup, tx_setup}
 use Rattle.em_regs.specs.declared.profile.Profile.{Profile}
+use Rattle.em_regs.specs.declared.profile.Profile.TheVariants.{Table, Adapter}
 use Rattle.em_regs.specs.Table.{answers_at, reg_of}
 use Rattle.em_rx.specs.Fifo.{Fifo, first}
 use Rattle.em_rx.specs.Receive as rx
+use Rattle.em_tx.specs.Control.{as_read, is_over, is_still}
 use Rattle.em_tx.specs.Descriptor.{address, dext, length_of}
 use Rattle.em_tx.specs.Ring as tx
+use Rattle.em_step.specs.Engines.{tx_control}
 use Rattle.em_step.specs.Event.{Event, reads, writes, pokes, arrives, links, receives, transmits}
 use Rattle.em_step.specs.State.{State}
 use Rattle.em_step.specs.declared.refusal.Refusal.{Refusal}
@@ -20,7 +23,7 @@ use Rattle.em_reasons.specs.declared.refused.Bounds.{Bounds}
 use Rattle.em_reasons.specs.declared.refused.Refused.{Refused}
 use Rattle.em_reasons.specs.declared.refused.Refused.TheVariants.{NoRegister, Range, WriteLength, FrameLength}
 use Rattle.em_reasons.specs.declared.refused.Refused.TheVariants.{RxDescriptor, RxBuffer, TxDescriptor, TxBuffer}
-use Rattle.em_reasons.specs.declared.refused.Refused.TheVariants.{Extended, TooLong, Memory}
+use Rattle.em_reasons.specs.declared.refused.Refused.TheVariants.{Extended, TooLong, Overlong, Memory}
 use Rattle.em_reasons.specs.RxIdle.{rx_idle}
 use Rattle.em_reasons.specs.Table.{first_of}
 use Rattle.em_reasons.specs.TxIdle.{tx_idle}
@@ -72,21 +75,29 @@ rx_table q base memory fifo =
     ∷ (leaves base memory (rx.buffer_at q memory) (rx.count_of q fifo), rx_buffer q base memory fifo)
     ∷ []
 
--- the octets of the descriptor at TDH
-abbrev pub tx_octets : TxSetup → List ℕ → List ℕ
-tx_octets q memory = part memory (tx.place q) 16
+-- the octets of the descriptor at TDH, as the profile reads it
+abbrev pub tx_octets : Profile → TxSetup → List ℕ → List ℕ
+tx_octets p q memory = as_read p (part memory (tx.place q) 16)
 
 -- that descriptor d, which lies there, and where its buffer lies
 abbrev pub tx_buffer : TxSetup → Bounds → List ℕ → Refused
 tx_buffer q memory d = TxBuffer q.head (tx.place q) (address d) (length_of d) memory
 
+-- it has so many octets, too many; the second profile goes by its address, too
+abbrev pub too_long : Profile → ℕ → ℕ → ℕ → Refused
+too_long Table index place n = TooLong index place n
+too_long Adapter index place n = Overlong index place n
+
 -- of a transmit step that is not idle: the descriptor leaves memory; it has DEXT; its octets are, with those that are
--- gathered, more than 16,380; and it has some, and they leave memory
-abbrev pub tx_table : TxSetup → Bounds → List ℕ → List ℕ → List (Bool × Refused)
-tx_table q memory gathered d =
+-- gathered, more than 16,380, or more than the profile lets it have; and it has some, and they leave memory
+abbrev pub tx_table : Profile → TxSetup → Bounds → List ℕ → List ℕ → List (Bool × Refused)
+tx_table p q memory gathered d =
     (is_past memory (tx.place q) 16, TxDescriptor q.head (tx.place q) memory)
     ∷ (dext d, Extended q.head (tx.place q))
-    ∷ (nat_lt 16380 (length gathered + length_of d), TooLong q.head (tx.place q) (length_of d))
+    ∷ (
+      nat_lt 16380 (length gathered + length_of d) || is_over p (length_of d),
+      too_long p q.head (tx.place q) (length_of d),
+    )
     ∷ (nat_lt 0 (length_of d) && is_past memory (address d) (length_of d), tx_buffer q memory d)
     ∷ []
 
@@ -105,7 +116,8 @@ refusal_table s receives =
     let q = rx_setup s.registers in unless_idle (rx.is_idle q s.fifo) (rx_table q s.base s.memory s.fifo)
 refusal_table s transmits =
     let q = tx_setup s.registers in
-    unless_idle (tx.is_idle q) (tx_table q (bounds_of s) s.gathered (tx_octets q s.memory))
+    unless_idle (is_still (tx_control s))
+    (tx_table s.profile q (bounds_of s) s.gathered (tx_octets s.profile q s.memory))
 
 -- why an event is refused, if it is, and not for want of memory
 abbrev pub why : State → Event → Option Refused
@@ -129,6 +141,7 @@ refusal_of (RxBuffer i at buffer room n size) = refusal.DmaRange
 refusal_of (TxBuffer i at buffer n size) = refusal.DmaRange
 refusal_of (Extended i at) = refusal.Extended
 refusal_of (TooLong i at n) = refusal.TooLong
+refusal_of (Overlong i at n) = refusal.TooLong
 refusal_of Memory = refusal.Memory
 
 -- ---- by the refusal that was answered
@@ -140,12 +153,12 @@ refused_receive q base memory fifo =
     if leaves base memory (rx.descriptor_at q) 16 then RxDescriptor q.head (rx.descriptor_at q) (bounds base memory)
     else rx_buffer q base memory fifo
 
-abbrev pub refused_descriptor : Refusal → TxSetup → Bounds → List ℕ → Refused
-refused_descriptor refusal.Extended q memory d = Extended q.head (tx.place q)
-refused_descriptor refusal.TooLong q memory d = TooLong q.head (tx.place q) (length_of d)
-refused_descriptor _ q memory d = tx_buffer q memory d
+abbrev pub refused_descriptor : Refusal → Profile → TxSetup → Bounds → List ℕ → Refused
+refused_descriptor refusal.Extended p q memory d = Extended q.head (tx.place q)
+refused_descriptor refusal.TooLong p q memory d = too_long p q.head (tx.place q) (length_of d)
+refused_descriptor _ p q memory d = tx_buffer q memory d
 
-abbrev pub refused_transmit : Refusal → TxSetup → ℕ → List ℕ → Refused
-refused_transmit r q base memory =
+abbrev pub refused_transmit : Refusal → Profile → TxSetup → ℕ → List ℕ → Refused
+refused_transmit r p q base memory =
     if leaves base memory (tx.place q) 16 then TxDescriptor q.head (tx.place q) (bounds base memory)
-    else refused_descriptor r q (bounds base memory) (tx_octets q memory)
+    else refused_descriptor r p q (bounds base memory) (tx_octets p q memory)

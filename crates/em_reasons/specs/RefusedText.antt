@@ -5,7 +5,7 @@ use Rattle.em_reasons.specs.declared.refused.Bounds.{Bounds}
 use Rattle.em_reasons.specs.declared.refused.Refused.{Refused}
 use Rattle.em_reasons.specs.declared.refused.Refused.TheVariants.{NoRegister, Range, WriteLength, FrameLength}
 use Rattle.em_reasons.specs.declared.refused.Refused.TheVariants.{RxDescriptor, RxBuffer, TxDescriptor, TxBuffer}
-use Rattle.em_reasons.specs.declared.refused.Refused.TheVariants.{Extended, TooLong, Memory}
+use Rattle.em_reasons.specs.declared.refused.Refused.TheVariants.{Extended, TooLong, Overlong, Memory}
 use Rattle.em_reasons.specs.Refused.{memory_of}
 
 -- where guest memory ends, and where it begins, if not at 0
@@ -39,11 +39,10 @@ tx_buffer_text index at buffer octets =
     descriptor_then index at
     (codes ", buffer " ++ (address_text buffer ++ (codes " of " ++ (decimal octets ++ codes " octets"))))
 
--- it has too many octets
-abbrev pub long_text : ℕ → ℕ → ℕ → List ℕ
-long_text index at octets =
-    descriptor_then index at
-    (codes ": its " ++ (decimal octets ++ codes " octets with those gathered before are above 16380"))
+-- it has too many octets, and a text behind
+abbrev pub long_text : ℕ → ℕ → ℕ → List ℕ → List ℕ
+long_text index at octets text =
+    descriptor_then index at (codes ": its " ++ (decimal octets ++ (codes " octets " ++ text)))
 
 abbrev pub range_text : ℕ → ℕ → List ℕ
 range_text at octets = decimal octets ++ (codes " octets at " ++ address_text at)
@@ -58,7 +57,9 @@ reason_text (RxDescriptor index at memory) = descriptor_then index at []
 reason_text (RxBuffer index at buffer size frame memory) = rx_buffer_text index at buffer size frame
 reason_text (TxDescriptor index at memory) = descriptor_then index at []
 reason_text (Extended index at) = descriptor_then index at (codes " is extended (DEXT)")
-reason_text (TooLong index at octets) = long_text index at octets
+reason_text (TooLong index at octets) = long_text index at octets (codes "with those gathered before are above 16380")
+reason_text (Overlong index at octets) =
+    long_text index at octets (codes "are above 16288, or with those gathered before above 16380")
 reason_text (TxBuffer index at buffer octets memory) = tx_buffer_text index at buffer octets
 reason_text Memory = codes "the host has no memory for it"
 

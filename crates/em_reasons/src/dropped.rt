@@ -3,7 +3,7 @@ ghost use Rattle.std.specs.Prelude.{◌≡◌, Some, if◌then◌else◌};
 ghost use Rattle.em_filter.specs.Vlan.{tagged};
 ghost use Rattle.em_rx.specs.Frame.{len_of};
 ghost use Rattle.em_step.specs.Arrival.{keeps_sequence, kept_frame};
-ghost use Rattle.em_reasons.specs.Dropped.{IsDropped, from_of, rejected, to_of, unfiltered, why};
+ghost use Rattle.em_reasons.specs.Dropped.{IsDropped, from_of, rejected, to_of, too_long, unfiltered, why};
 
 use crate::frame::{cfi_of, identifier_of, octet};
 use crate::registers::{has, registers};
@@ -37,8 +37,10 @@ pub enum Dropped {
     Control { to: [u8; 6], hash: u16 },
     /// It has fewer than 64 octets, the frame check sequence among them.
     Undersize { octets: u64 },
-    /// It has more octets than there may be by RCTL.LPE, the frame check sequence among them.
+    /// It has more octets than there may be by RCTL.LPE, the frame check sequence among them (the first profile).
     Oversize { octets: u64, most: u32 },
+    /// It has more octets than there may be by RCTL.LPE and SBP, the frame check sequence among them (the second profile).
+    Overlong { octets: u64, most: u32 },
     /// Its VLAN is not in the VFTA.
     Vlan { identifier: u16 },
     /// The CFI of its tag is this one, and not RCTL.CFI.
@@ -59,14 +61,23 @@ pub fn why_dropped(machine: &Machine, frame: &[u8], reason: Reason) -> Dropped
         Reason::Disabled => Dropped::Disabled,
         Reason::Rejected => rejected(machine, frame),
         Reason::Undersize => Dropped::Undersize { octets },
-        Reason::Oversize => Dropped::Oversize {
-            octets,
-            most: longest(registers(machine)),
-        },
+        Reason::Oversize => too_long(machine, octets),
         Reason::Missed => Dropped::Missed {
             octets: stored_octets(machine, frame),
             frames: machine.frames(),
         },
+    }
+}
+
+/// A frame of so many octets is too long.
+fn too_long(machine: &Machine, octets: u64) -> Dropped
+    ensures { result ≡ too_long machine.now.present octets }
+{
+    let profile = machine.profile();
+    let most = longest(profile, registers(machine));
+    match profile {
+        Profile::Table => Dropped::Oversize { octets, most },
+        Profile::Adapter => Dropped::Overlong { octets, most },
     }
 }
 

@@ -10,7 +10,7 @@ use em_pieces::{Piece, write_text};
 use em_text::{WriteFailed, write_whole};
 use std::io::Write;
 
-/// The most octets of a frame on the wire with RCTL.LPE clear.
+/// The most octets of a frame on the wire where long ones are not taken.
 const MOST: u32 = 1522;
 
 /// Writes why a frame was dropped: `01:00:5E:00:00:01 is in no filter (MTA[14] bit 22 is clear, MPE is clear)`.
@@ -37,7 +37,10 @@ pub fn write_dropped<W: Write>(writer: &mut W, reason: Dropped) -> Result<(), Wr
                 Piece::Text(b" octets with the FCS are below 64"),
             ],
         ),
-        Dropped::Oversize { octets, most } => write_long(writer, octets, most),
+        Dropped::Oversize { octets, most } => write_long(writer, octets, most, b", LPE is clear"),
+        Dropped::Overlong { octets, most } => {
+            write_long(writer, octets, most, b", LPE and SBP are clear")
+        }
         Dropped::Vlan { identifier } => write_vlan(writer, identifier),
         Dropped::Cfi { cfi } => write_whole(writer, cfi_text(cfi)),
         Dropped::Pause => write_whole(writer, b"a pause frame (DPF is set)"),
@@ -89,8 +92,13 @@ fn write_broadcast<W: Write>(writer: &mut W, hash: u16) -> Result<(), WriteFaile
     )
 }
 
-fn write_long<W: Write>(writer: &mut W, octets: u64, most: u32) -> Result<(), WriteFailed>
-    ensures writes { Writes (W.contents writer.old) (W.contents writer.new) result (long_text octets most) }
+fn write_long<W: Write>(
+    writer: &mut W,
+    octets: u64,
+    most: u32,
+    clear: &[u8],
+) -> Result<(), WriteFailed>
+    ensures writes { Writes (W.contents writer.old) (W.contents writer.new) result (long_text octets most clear.now) }
 {
     write_text(
         writer,
@@ -98,16 +106,16 @@ fn write_long<W: Write>(writer: &mut W, octets: u64, most: u32) -> Result<(), Wr
             Piece::Number(octets),
             Piece::Text(b" octets with the FCS are above "),
             Piece::Number(most as u64),
-            Piece::Text(most_text(most)),
+            Piece::Text(most_text(clear, most)),
         ],
     )
 }
 
-/// Says that LPE is clear, where the most octets say so.
-fn most_text(most: u32) -> &'static [u8]
-    ensures { result.now ≡ most_text most }
+/// Which bits are clear, where the most octets say so.
+fn most_text<'t>(clear: &'t [u8], most: u32) -> &'t [u8]
+    ensures { result.now ≡ most_text clear.now most }
 {
-    if most == MOST { b", LPE is clear" } else { b"" }
+    if most == MOST { clear } else { b"" }
 }
 
 fn write_vlan<W: Write>(writer: &mut W, identifier: u16) -> Result<(), WriteFailed>

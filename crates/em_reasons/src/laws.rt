@@ -14,7 +14,8 @@ ghost use Rattle.em_reasons.specs.declared.rx_idle.RxIdle.{RxIdle};
 ghost use Rattle.em_reasons.specs.declared.tx_idle.TxIdle.{TxIdle};
 ghost use Rattle.em_reasons.specs.Dropped.{IsDropped, reason_of, why};
 ghost use Rattle.em_reasons.specs.Refused as refused;
-ghost use Rattle.em_reasons.specs.Foretold.{FillsBuffer, IsLongAlone, foretold, refusal_in, rx_trouble, tx_trouble};
+ghost use Rattle.em_reasons.specs.Foretold.{FillsBuffer, IsLongAlone, IsReadPlainly, foretold, refusal_in, rx_trouble};
+ghost use Rattle.em_reasons.specs.Foretold.{tx_trouble};
 ghost use Rattle.em_reasons.specs.Looks.{dropped_looks, looks_before, refused_looks, rx_idle_looks, tx_idle_looks};
 ghost use Rattle.em_reasons.specs.RxIdle.{IsIdleReceiving, rx_idle};
 ghost use Rattle.em_reasons.specs.SameLooks.{SameLooks};
@@ -46,12 +47,13 @@ pub fn refusals_are_explained()
         (step s e ≡ Err r) ↔ (option_map refused.refusal_of (refused.why s e) ≡ Some r) }
 {}
 
-/// As long as what the test looked at stays as it is, a step stays idle, though maybe for an earlier reason.
+/// As long as what the test looked at stays as it is, a step stays idle, though maybe for an earlier reason. Of a transmit
+/// step what counts and is no look: the profile is the same.
 pub fn idle_steps_stay_idle()
     ensures receives { (s t : State) (reason : RxIdle) → rx_idle s ≡ Some reason →
         SameLooks s t (rx_idle_looks reason) → IsIdleReceiving t }
     ensures transmits { (s t : State) (reason : TxIdle) → tx_idle s ≡ Some reason →
-        SameLooks s t (tx_idle_looks reason) → IsIdleSending t }
+        SameLooks s t (tx_idle_looks reason) → t.profile ≡ s.profile → IsIdleSending t }
 {}
 
 /// As long as what the test looked at stays as it is, the frame is dropped whenever it arrives, though maybe for
@@ -85,10 +87,13 @@ pub fn refused_events_stay_refused()
 /// - that a buffer lies outside memory. It speaks of the whole buffer; the receive engine asks for the octets that the
 ///   first frame still has, up to the buffer's size;
 /// - that a length is above 16,380. It speaks of the descriptor alone; the transmit engine adds what is gathered.
+///
+/// It does not know what the second profile adds: a descriptor with the address 0 has no octets there, and one has at most
+/// 16,288.
 pub fn troubles_are_refused()
     ensures receives { (s : State) → refused.IsBusy s receives →
         (rx_trouble s ≡ Some Trouble.BufferOutside → FillsBuffer s) →
         refusal_in (step s receives) ≡ foretold (rx_trouble s) }
-    ensures transmits { (s : State) → refused.IsBusy s transmits → IsLongAlone s →
+    ensures transmits { (s : State) → refused.IsBusy s transmits → IsLongAlone s → IsReadPlainly s →
         refusal_in (step s transmits) ≡ foretold (tx_trouble s) }
 {}

@@ -22,6 +22,9 @@ const LENGTH: u32 = 0x000F_FF80;
 /// The bits of RCTL by which a MAC control frame passes: UPE, MPE, MO, BAM and PMCF.
 const CONTROL_BITS: u32 = 0x0080_B018;
 
+/// RCTL.LBM.
+const LBM: u32 = 0x0000_00C0;
+
 /// What of a descriptor decides: its buffer's address, with the length behind it, that length, and CMD.
 const ADDRESS_OCTETS: u32 = 8;
 
@@ -99,6 +102,10 @@ impl TxIdle {
                 alloc,
                 &[bits(Reg::Tdh, LOW_HALF), bits(Reg::Tdt, LOW_HALF)],
             ),
+            TxIdle::LinkDown => Vec::from_slice(
+                alloc,
+                &[bits(Reg::Status, Status::LU.bits()), bits(Reg::Rctl, LBM)],
+            ),
         }
     }
 }
@@ -138,6 +145,10 @@ impl Dropped {
             Dropped::Oversize { .. } => Vec::from_slice(
                 alloc,
                 &[bits(Reg::Rctl, Rctl::LPE.bits())],
+            ),
+            Dropped::Overlong { .. } => Vec::from_slice(
+                alloc,
+                &[bits(Reg::Rctl, Rctl::SBP.union(Rctl::LPE).bits())],
             ),
             Dropped::Vlan { identifier } => Vec::from_slice(
                 alloc,
@@ -217,6 +228,7 @@ impl Refused {
             ),
             Refused::Extended { at, .. } => tx_octets(alloc, at, COMMAND_AT, COMMAND_OCTETS),
             Refused::TooLong { at, .. } => tx_octets(alloc, at, LENGTH_AT, LENGTH_OCTETS),
+            Refused::Overlong { at, .. } => tx_octets(alloc, at, 0, BUFFER_OCTETS),
             Refused::TxBuffer { at, .. } => tx_octets(alloc, at, 0, BUFFER_OCTETS),
             Refused::Memory => Ok(Vec::new(alloc)),
         }

@@ -4,12 +4,13 @@ ghost use Rattle.em_regs.specs.Setup.{rx_setup, tx_setup};
 ghost use Rattle.em_rx.specs.Fifo.{first};
 ghost use Rattle.em_step.specs.Event.{plain};
 ghost use Rattle.em_step.specs.Step.{step};
-ghost use Rattle.em_reasons.specs.Refused.{refused_descriptor, refused_receive, refused_transmit};
+ghost use Rattle.em_reasons.specs.Refused.{refused_descriptor, refused_receive, refused_transmit, too_long};
+ghost use Rattle.em_tx.specs.Control.{as_read};
 ghost use Rattle.em_reasons.specs.Refused.{bounds_of, memory_of, refused_write, why};
 
 use em_inspect::octets_at;
 use em_journal::Machine;
-use em_regs::{DESCRIPTOR_OCTETS, TxSetup};
+use em_regs::{DESCRIPTOR_OCTETS, Profile, TxSetup};
 use em_rx::RxDescriptor;
 use em_step::{Event, Refusal};
 use em_tx::TxDescriptor;
@@ -69,8 +70,15 @@ pub enum Refused {
         index: u32,
         at: u128,
     },
-    /// The octets of the descriptor at TDH are, with those that are gathered, more than 16,380.
+    /// The octets of the descriptor at TDH are, with those that are gathered, more than 16,380 (the first profile).
     TooLong {
+        index: u32,
+        at: u128,
+        octets: u16,
+    },
+    /// The octets of the descriptor at TDH are more than 16,288, or with those that are gathered more than 16,380 (the
+    /// second profile, in which a descriptor with the address 0 has none).
+    Overlong {
         index: u32,
         at: u128,
         octets: u16,
@@ -184,7 +192,7 @@ fn first_len(machine: &Machine) -> u64
 
 /// Why a transmit step was refused so.
 fn refused_transmit(machine: &Machine, refusal: Refusal) -> Refused
-    ensures { result ≡ refused_transmit refusal (tx_setup machine.now.present.registers)
+    ensures { result ≡ refused_transmit refusal machine.now.present.profile (tx_setup machine.now.present.registers)
         machine.now.present.base machine.now.present.memory }
 {
     let setup = machine.ring_tx();
@@ -206,19 +214,17 @@ fn refused_descriptor(
     setup: &TxSetup,
     octets: [u8; DESCRIPTOR_OCTETS],
 ) -> Refused
-    ensures { result ≡ refused_descriptor refusal setup.now (bounds_of machine.now.present) octets }
+    ensures { result ≡ refused_descriptor refusal machine.now.present.profile setup.now (bounds_of machine.now.present)
+        (as_read machine.now.present.profile octets) }
 {
-    let descriptor = TxDescriptor::of_octets(octets);
+    let profile = machine.profile();
+    let descriptor = TxDescriptor::of_octets(octets).as_read(profile);
     let index = setup.head;
     let at = setup.ring().descriptor_at(index);
     let length = descriptor.length();
     match refusal {
         Refusal::Extended => Refused::Extended { index, at },
-        Refusal::TooLong => Refused::TooLong {
-            index,
-            at,
-            octets: length,
-        },
+        Refusal::TooLong => too_long(profile, index, at, length),
         _ => Refused::TxBuffer {
             index,
             at,
@@ -226,5 +232,15 @@ fn refused_descriptor(
             octets: length,
             memory: bounds_of(machine),
         },
+    }
+}
+
+/// A descriptor has too many octets.
+fn too_long(profile: Profile, index: u32, at: u128, octets: u16) -> Refused
+    ensures { result ≡ too_long profile index at octets }
+{
+    match profile {
+        Profile::Table => Refused::TooLong { index, at, octets },
+        Profile::Adapter => Refused::Overlong { index, at, octets },
     }
 }

@@ -8,6 +8,11 @@ use em_pieces::{Piece, write_text};
 use em_text::{WriteFailed, write_whole};
 use std::io::Write;
 
+/// Of which octets there are too many: of those of a frame, and in the second profile of those of a descriptor, too.
+const TOO_MANY: &[u8] = b"with those gathered before are above 16380";
+
+const OVER_ONE: &[u8] = b"are above 16288, or with those gathered before above 16380";
+
 /// Writes why an event was refused: `descriptor 2 at 001020, buffer 00FFC0 of 1088 octets, memory ends at 010000`.
 pub fn write_refused<W: Write>(writer: &mut W, reason: Refused) -> Result<(), WriteFailed>
     ensures writes { Writes (W.contents writer.old) (W.contents writer.new) result (refused_text reason) }
@@ -99,7 +104,12 @@ fn write_reason<W: Write>(writer: &mut W, reason: Refused) -> Result<(), WriteFa
         Refused::Extended { index, at } => {
             write_descriptor(writer, index, at, b" is extended (DEXT)")
         }
-        Refused::TooLong { index, at, octets } => write_too_long(writer, index, at, octets),
+        Refused::TooLong { index, at, octets } => {
+            write_too_long(writer, index, at, octets, TOO_MANY)
+        }
+        Refused::Overlong { index, at, octets } => {
+            write_too_long(writer, index, at, octets, OVER_ONE)
+        }
         Refused::TxBuffer {
             index,
             at,
@@ -159,8 +169,10 @@ fn write_too_long<W: Write>(
     index: u32,
     at: u128,
     octets: u16,
+    text: &[u8],
 ) -> Result<(), WriteFailed>
-    ensures writes { Writes (W.contents writer.old) (W.contents writer.new) result (long_text index at octets) }
+    ensures writes { Writes (W.contents writer.old) (W.contents writer.new) result
+        (long_text index at octets text.now) }
 {
     write_text(
         writer,
@@ -171,7 +183,8 @@ fn write_too_long<W: Write>(
             Piece::Address(at),
             Piece::Text(b": its "),
             Piece::Number(octets as u64),
-            Piece::Text(b" octets with those gathered before are above 16380"),
+            Piece::Text(b" octets "),
+            Piece::Text(text),
         ],
     )
 }

@@ -19,6 +19,8 @@ pub enum TxIdle {
     TailPast { tail: u32, count: u32 },
     /// No descriptor is the adapter's: TDH and TDT are the same.
     Empty { at: u32 },
+    /// The link is down, and RCTL.LBM gives nothing back (the second profile).
+    LinkDown,
 }
 
 /// Why a transmit step of the machine would be idle, or was: an idle step changes nothing. None where it would not be.
@@ -27,12 +29,12 @@ pub fn why_tx_idle(machine: &Machine) -> Option<TxIdle>
     ensures idle { IsSome result ↔ IsIdleSending machine.now.present }
 {
     let ring = machine.ring_tx();
-    first_reason(&ring)
+    first_reason(&ring, machine.is_halted())
 }
 
-/// The first test that holds, of a ring.
-fn first_reason(ring: &TxSetup) -> Option<TxIdle>
-    ensures { result ≡ first_of (tx_idle_table ring.now) }
+/// The first test that holds, of a ring, and of whether sending is halted.
+fn first_reason(ring: &TxSetup, halted: bool) -> Option<TxIdle>
+    ensures { result ≡ first_of (tx_idle_table ring.now halted) }
 {
     if !ring.enabled {
         return Some(TxIdle::Disabled);
@@ -54,6 +56,9 @@ fn first_reason(ring: &TxSetup) -> Option<TxIdle>
     }
     if ring.head == ring.tail {
         return Some(TxIdle::Empty { at: ring.head });
+    }
+    if halted {
+        return Some(TxIdle::LinkDown);
     }
     None
 }

@@ -17,5 +17,6 @@ pub fn write_tx_idle<W: Write>(writer: &mut W, reason: TxIdle) -> Result<(), Wri
         TxIdle::HeadPast { head, count } => write_past(writer, b"TDH", head, count),
         TxIdle::TailPast { tail, count } => write_past(writer, b"TDT", tail, count),
         TxIdle::Empty { at } => write_empty(writer, b"TDH = TDT", at),
+        TxIdle::LinkDown => write_whole(writer, b"the link is down, and RCTL.LBM is 0"),
     }
 }

@@ -7,7 +7,7 @@ use Rattle.std.proofs.lemmas.Bool.{ltb-false}
 use Rattle.em_regs.specs.Storage.{Registers}
 use Rattle.em_address.specs.declared.kind.Kind.{Kind}
 use Rattle.em_filter.specs.declared.outcome.Verdict.TheVariants.{Reject, Undersize, Oversize, Accept}
-use Rattle.em_filter.specs.Bits.{lpe}
+use Rattle.em_filter.specs.Bits.{takes_long}
 use Rattle.em_filter.specs.Filters.{longest, passes_address, passes_others, verdict}
 use Rattle.em_regs.specs.declared.profile.Profile.{Profile}
 use Rattle.em_crc.specs.Crc.{crc32, sequence}
@@ -37,12 +37,12 @@ pub accepted_sizes : (p : Profile) (s : Registers) (f : List ℕ) (kind : Kind) 
 unfolding verdict
 accepted_sizes p s f kind is =
     let short : Bool = nat_lt (length f + 4) 64 in
-    let long : Bool = nat_lt (longest s) (length f + 4) in
+    let long : Bool = nat_lt (longest p s) (length f + 4) in
     let known : (short ≡ false) × (long ≡ false) =
     sizes (passes_address p s f) short long (passes_others p s f) _ kind is in
     let least : 64 ≤ length f + 4 = ltb-false _ _ known.0 in
-    let few : length f + 4 ≤ longest s = ltb-false _ _ known.1 in
-    (omega (arith, least), omega (arith, few, longest_most (lpe s)))
+    let few : length f + 4 ≤ longest p s = ltb-false _ _ known.1 in
+    (omega (arith, least), omega (arith, few, longest_most (takes_long p s)))
 
 -- a tagged frame is stored without four octets
 pub stored_len : (f : List ℕ) (t : Bool) → 16 ≤ length f →

@@ -6,7 +6,7 @@ use Rattle.std.proofs.lemmas.Bool.{ltb-false}
 use Rattle.std.proofs.lemmas.Bool.Decides.{nat_tests}
 use Rattle.std.specs.Prelude.{if◌then◌else◌, nat_lt, ◌||◌, slice_index, ◌/◌, ◌%◌, ◌^◌}
 use Rattle.em_regs.specs.declared.reg.Reg.TheVariants.{Rctl}
-use Rattle.em_regs.specs.Setup.{has, rx_setup, tx_setup, value_of}
+use Rattle.em_regs.specs.Setup.{has, rx_setup, value_of}
 use Rattle.em_regs.specs.Table.{reg_at}
 use Rattle.em_rx.specs.Receive as rx
 use Rattle.em_rx.specs.Receive.{octets_written}
@@ -15,7 +15,7 @@ use Rattle.em_tx.specs.Engine as tx
 use Rattle.em_tx.specs.declared.answer.TxAnswer.{TxAnswer}
 use Rattle.em_tx.specs.declared.refusal.TxRefusal.{TxRefusal}
 use Rattle.em_tx.proofs.CostLaws as tx_laws
-use Rattle.em_step.specs.Engines.{sending, transmitted, tx_stepped}
+use Rattle.em_step.specs.Engines.{sending, transmitted, tx_control, tx_stepped}
 use Rattle.em_filter.specs.Vlan.{tagged}
 use Rattle.em_step.specs.State.{State}
 use Rattle.em_step.specs.Arrival.{arrival, keeps_sequence, octets_stored}
@@ -119,7 +119,7 @@ cost_most s (arrives f) r is =
 cost_most s (links up) r is = omega arith
 cost_most s receives r is = omega (arith, piece_most s)
 cost_most s transmits r is =
-    let q = tx_setup s.registers in
+    let q = tx_control s in
     let most = sent_by_engine s (transmitted s) r (tx.cost q (sending s)) (tx_laws.cost_most q s.base (sending s)) is in
     omega (arith, most)
 

@@ -3,29 +3,31 @@ use Rattle.std.proofs.Common.{◌≡◌, inl, inr, Bool, true, false, cond, IsTr
 use Rattle.std.proofs.Common.{Result, Ok, Err}
 use Rattle.std.proofs.Common.{refl, sym, ap, ◌∙◌, arith, subst}
 use Rattle.std.specs.Prelude.{IsOk, not, ◌+◌, ◌≤◌, ◌==◌, if◌then◌else◌}
-use Rattle.em_mem.specs.Memory.{leaves, part}
+use Rattle.em_mem.specs.Memory.{leaves}
 use Rattle.em_regs.specs.declared.reg.Reg.TheVariants.{Rdh}
 use Rattle.em_regs.specs.declared.setup.RxSetup.{RxSetup}
 use Rattle.em_regs.specs.declared.setup.TxSetup.{TxSetup}
 use Rattle.em_regs.specs.RegFile.{put}
-use Rattle.em_regs.specs.Setup.{rx_setup, tx_setup}
+use Rattle.em_regs.specs.Setup.{rx_setup}
 use Rattle.em_latch.specs.Latches.{after_raise}
 use Rattle.em_rx.specs.Receive.{Outcome, receive}
 use Rattle.em_rx.specs.declared.step.RxAnswer.{RxAnswer}
 use Rattle.em_rx.specs.declared.step.RxAnswer.TheVariants as rx_answer
 use Rattle.em_tx.specs.Cells.{Shown}
+use Rattle.em_tx.specs.Control.{first, is_still}
 use Rattle.em_tx.specs.Engine.{gather, handle, refusal, sends, transmit, unless}
 use Rattle.em_tx.specs.Engine as tx
 use Rattle.em_tx.specs.Frame.{frame}
 use Rattle.em_tx.specs.Descriptor.{rs}
-use Rattle.em_tx.specs.Ring.{causes, is_idle, next, place}
+use Rattle.em_tx.specs.Ring.{causes, next, place}
 use Rattle.em_tx.specs.Engine.{IsHandled}
 use Rattle.em_tx.specs.declared.answer.TxAnswer.{TxAnswer}
 use Rattle.em_tx.specs.declared.answer.TxAnswer.TheVariants as tx_answer
+use Rattle.em_tx.specs.declared.control.TxControl.{TxControl}
 use Rattle.em_tx.specs.declared.refusal.TxRefusal.{TxRefusal}
 use Rattle.em_tx.specs.declared.refusal.TxRefusal.TheVariants as tx_refusal
 use Rattle.em_step.specs.Engines.{after_tx_answer, rx_step, rx_stepped, sending, tx_refused, tx_step, tx_stepped}
-use Rattle.em_step.specs.Engines.{with_shown}
+use Rattle.em_step.specs.Engines.{tx_control, with_shown}
 use Rattle.em_step.specs.Event.{transmits}
 use Rattle.em_step.specs.State.{State}
 use Rattle.em_step.specs.Step.{Refuses, needs_memory, takes_none}
@@ -86,14 +88,14 @@ busy_step true x s r busy is = cc
 busy_step false x s r busy is = is
 
 -- a step that is not idle and not refused handles a descriptor
-transmit_handles : (q : TxSetup) (base : ℕ) (s : Shown) (r : TxAnswer × Shown) → is_idle q ≡ false
+transmit_handles : (q : TxControl) (base : ℕ) (s : Shown) (r : TxAnswer × Shown) → is_still q ≡ false
     → transmit q base s ≡ Ok r
     → IsHandled r.0
 unfolding transmit
 transmit_handles q base s r busy is =
-    let d = part s.memory (place q) 16 in
-    by_tests IsHandled (leaves base s.memory (place q) 16) (refusal base s.gathered s.memory d) (handle q d s) r
-    (handled q d s) (busy_step (is_idle q) _ s r busy is)
+    let d = first q s.memory in
+    by_tests IsHandled (leaves base s.memory (place q.setup) 16) (refusal q.profile base s.gathered s.memory d) (handle q.setup d s) r
+    (handled q.setup d s) (busy_step (is_still q) _ s r busy is)
 
 -- the causes that a step raises: two at most
 abbrev pub causes_raised : TxAnswer → ℕ
@@ -123,14 +125,14 @@ idle_step P true x s r rests handles is =
     let found : (tx_answer.Idle, s) ≡ r = cc in subst (λ (y : TxAnswer × Shown). P y.0) found rests
 idle_step P false x s r rests handles is = handles is
 
-pub raises_few : (q : TxSetup) (base : ℕ) (s : Shown) (r : TxAnswer × Shown) → transmit q base s ≡ Ok r
+pub raises_few : (q : TxControl) (base : ℕ) (s : Shown) (r : TxAnswer × Shown) → transmit q base s ≡ Ok r
     → causes_raised r.0 ≤ 3
 unfolding transmit
 raises_few q base s r is =
-    let d = part s.memory (place q) 16 in
-    idle_step RaisesFew (is_idle q) _ s r (omega arith)
-    (by_tests RaisesFew (leaves base s.memory (place q) 16) (refusal base s.gathered s.memory d) (handle q d s) r
-    (handled_few q d s)) is
+    let d = first q s.memory in
+    idle_step RaisesFew (is_still q) _ s r (omega arith)
+    (by_tests RaisesFew (leaves base s.memory (place q.setup) 16) (refusal q.profile base s.gathered s.memory d) (handle q.setup d s) r
+    (handled_few q.setup d s)) is
 
 needs_answer : (s : State) (a : TxAnswer) → IsHandled a → IsTrue (not (takes_none (after_tx_answer s a).0))
 needs_answer s tx_answer.Idle is = absurd is
@@ -147,12 +149,12 @@ not_true : (b : Bool) → IsTrue (not b) → b ≡ false
 not_true true is = cc
 not_true false is = refl
 
-pub tx_refuses : (s : State) (q : TxSetup) (e : TxRefusal) → q ≡ tx_setup s.registers
+pub tx_refuses : (s : State) (q : TxControl) (e : TxRefusal) → q ≡ tx_control s
     → tx.Refuses q s.base (sending s) e
     → Refuses s transmits (tx_refused e)
 tx_refuses s q e setup (inl (memory, busy, ok)) =
     let handles = λ (r : TxAnswer × Shown) (is : transmit q s.base (sending s) ≡ Ok r).
-    transmit_handles q s.base (sending s) r (not_true (is_idle q) busy) is in
+    transmit_handles q s.base (sending s) r (not_true (is_still q) busy) is in
     let wanted : IsTrue (needs_memory (tx_step s))
     = subst (λ p. IsTrue (needs_memory (tx_stepped s (transmit p s.base (sending s))))) setup
     (needs s (transmit q s.base (sending s)) ok handles) in

@@ -131,7 +131,7 @@ effect_fits_after c d (TxStep old head) more fits = (
 )
 effect_fits_after c d (Link old) more fits = tt
 effect_fits_after c d (Pins old told) more fits = fits ∙ ap (λ words. pins.eecd words old) (sym more.eeprom)
-effect_fits_after c d (Phy old) more fits = tt
+effect_fits_after c d (Phy old) more fits = subst (λ p. phy.Fits p old) (sym more.phy) fits
 effect_fits_after c d (Reset old) more fits = (
   tx_laws.fits_after (tx_cells_of c) (tx_cells_of d) old.gathered (sending_cells c d more) fits.0,
   subst (λ (f : rx.Cells). rx.IsSound (record f { places = old.places })) (sym more.fifo) fits.1,

@@ -13,7 +13,7 @@ use Rattle.em_regs.specs.declared.setup.RxSetup.{RxSetup}
 use Rattle.em_regs.specs.declared.setup.TxSetup.{TxSetup}
 use Rattle.em_regs.specs.Setup.{rx_setup, tx_setup, value_of}
 use Rattle.em_regs.specs.Storage.{Registers}
-use Rattle.em_filter.specs.Bits.{lpe, vme}
+use Rattle.em_filter.specs.Bits.{takes_long, vme}
 use Rattle.em_regs.specs.Setup.{bit}
 use Rattle.em_filter.specs.Filters.{longest, passes_address, passes_others, verdict}
 use Rattle.em_address.specs.Kind.{destination, kind_of}
@@ -31,6 +31,7 @@ use Rattle.em_rx.specs.Receive.{is_idle, is_last}
 use Rattle.em_rx.specs.declared.step.RxAnswer.TheVariants as rx_answer
 use Rattle.em_rx.specs.declared.refusal.RxRefusal.TheVariants as rx_refusal
 use Rattle.em_tx.specs.Cells.{Shown}
+use Rattle.em_tx.specs.Control.{is_still}
 use Rattle.em_tx.specs.Descriptor.{address, command, length_of, eop, rs}
 use Rattle.em_tx.specs.Engine.{fetch, gather, handle, refusal, report, send, sends, transmit, unless}
 use Rattle.em_tx.specs.Frame.{frame, tag_of, with_padding, with_tag}
@@ -42,7 +43,7 @@ use Rattle.em_tx.specs.declared.refusal.TxRefusal.TheVariants as tx_refusal
 use Rattle.em_step.specs.Arrival.{after_accept, after_arrived, after_miss, arrival, is_enabled, judged, judgement, kept_frame}
 use Rattle.em_step.specs.Arrival.{keeps_sequence, lacks_room, with_sequence}
 use Rattle.em_step.specs.Engines.{after_rx_answer, after_tx_answer, rx_step, rx_stepped, sending, tx_step, tx_stepped}
-use Rattle.em_step.specs.Engines.{with_outcome, with_shown}
+use Rattle.em_step.specs.Engines.{is_halted, tx_control, with_outcome, with_shown}
 use Rattle.em_step.specs.State.{State}
 use Rattle.em_step.specs.Step.{arrive}
 use Rattle.em_step.specs.Whole.{IsUsual, IsPlain, plain, KeepsAllButFifo, Admits, ReceivesWhole, padded}
@@ -77,15 +78,15 @@ sizes false true c d kind was h = cc
 sizes false false true d kind was h = cc
 sizes false false false d kind was h = (refl, refl)
 
-accepted : (p : Profile) (m : Registers) (f : List ℕ) (kind : Kind) → lpe m ≡ false → verdict p m f ≡ Accept kind
+accepted : (p : Profile) (m : Registers) (f : List ℕ) (kind : Kind) → takes_long p m ≡ false → verdict p m f ≡ Accept kind
     → IsUsual f
 unfolding verdict
 accepted p m f kind no_lpe is =
-    let h = sizes (not (passes_address p m f)) (nat_lt (length f + 4) 64) (nat_lt (longest m) (length f + 4))
+    let h = sizes (not (passes_address p m f)) (nat_lt (length f + 4) 64) (nat_lt (longest p m) (length f + 4))
     (not (passes_others p m f)) kind (kind_of (destination f)) is in
-    let most : longest m ≡ 1522 = ap (λ (b : Bool). if b then 16384 else 1522) no_lpe in
+    let most : longest p m ≡ 1522 = ap (λ (b : Bool). if b then 16384 else 1522) no_lpe in
     let low : 64 ≤ length f + 4 = ltb-false _ _ h.0 in
-    let high : length f + 4 ≤ longest m = ltb-false _ _ h.1 in
+    let high : length f + 4 ≤ longest p m = ltb-false _ _ h.1 in
     record { least = omega arith; most = omega arith }
 
 untagged : (m : Registers) (f : List ℕ) → vme m ≡ false → tagged m f ≡ false
@@ -114,7 +115,7 @@ admitted s f kind false on usual no_vme bare = (
 )
 
 judged_by : (s : State) (f : List ℕ) (v : Verdict) → verdict s.profile s.registers f ≡ v → is_enabled s ≡ true
-    → lpe s.registers ≡ false → vme s.registers ≡ false → keeps_sequence s ≡ false
+    → takes_long s.profile s.registers ≡ false → vme s.registers ≡ false → keeps_sequence s ≡ false
     → ArrivedAs s f (judgement s f v)
 judged_by s f Reject is on no_lpe no_vme bare = (same_state s, inl (Rejected, refl, refl))
 judged_by s f TooShort is on no_lpe no_vme bare =
@@ -139,7 +140,7 @@ of_counted s f r (same, admits) = (
 )
 
 arrived_by : (s : State) (f : List ℕ) (up on : Bool) → is_enabled s ≡ on
-    → lpe s.registers ≡ false → vme s.registers ≡ false → keeps_sequence s ≡ false
+    → takes_long s.profile s.registers ≡ false → vme s.registers ≡ false → keeps_sequence s ≡ false
     → ArrivedAs s f (if not up then (Dropped Down, s) else if not on then (Dropped Disabled, s) else judged s f)
 arrived_by s f false on is no_lpe no_vme bare = (same_state s, inl (Down, refl, refl))
 arrived_by s f true false is no_lpe no_vme bare = (same_state s, inl (Disabled, refl, refl))
@@ -153,7 +154,7 @@ taken_in s f false r h = cc
 
 -- an arrival puts the frame as it is at the FIFO's end, or drops it
 pub arrived : (s : State) (f : List ℕ) (r : Answer × State) → arrive s f ≡ Ok r
-    → lpe s.registers ≡ false → vme s.registers ≡ false → keeps_sequence s ≡ false
+    → takes_long s.profile s.registers ≡ false → vme s.registers ≡ false → keeps_sequence s ≡ false
     → KeepsAllButFifo s r.1 × Admits s f r.0 r.1
 arrived s f r is no_lpe no_vme bare =
     subst (ArrivedAs s f)
@@ -308,10 +309,10 @@ unless_ok s (Some refused) x r h = cc
 
 -- what a transmit step leaves, by its tests
 transmitted_by : (s : State) (idle a : Bool) (r : Answer × State)
-    → tx.is_idle (tx_setup s.registers) ≡ idle
+    → is_still (tx_control s) ≡ idle
     → tx_stepped s (if idle then Ok (tx_answer.Idle, sending s)
     else if a then Err tx_refusal.DmaRange
-    else unless (refusal s.base s.gathered s.memory (next_descriptor s))
+    else unless (refusal s.profile s.base s.gathered s.memory (next_descriptor s))
     (handle (tx_setup s.registers) (next_descriptor s) (sending s))) ≡ Ok r
     → (tx_setup s.registers).vlan ≡ None → (tx_setup s.registers).pad ≡ true → s.gathered ≡ []
     → (value_of s.registers Tdh ≢ value_of s.registers Tdt → IsWhole s)
@@ -321,10 +322,11 @@ transmitted_by s false true r is ok no_vlan pad none whole = cc
 transmitted_by s false false r is ok no_vlan pad none whole =
     let q = tx_setup s.registers in
     let d = next_descriptor s in
-    let tests = tx_not_idle q.enabled (nat_le q.count q.head) (nat_le q.count q.tail) (q.head == q.tail) is in
+    let tests = tx_not_idle q.enabled (nat_le q.count q.head) (nat_le q.count q.tail) (q.head == q.tail)
+    (neither (tx.is_idle q) (is_halted s) is).0 in
     let apart = eqb-false q.head q.tail tests.1 in
     let w = whole apart in
-    let sent = unless_ok s (refusal s.base s.gathered s.memory d) (handle q d (sending s)) r ok in
+    let sent = unless_ok s (refusal s.profile s.base s.gathered s.memory d) (handle q d (sending s)) r ok in
     let handled = handled_whole q s.base d (sending s) none w.command w.least w.held no_vlan pad in
     let out : TxAnswer × Shown = send q d (sending s) (padded (next_packet s)) in
     let now : r ≡ after_tx_answer (with_shown s out.1) out.0
@@ -349,4 +351,4 @@ pub sent_whole : (s : State) (r : Answer × State) → tx_step s ≡ Ok r
 unfolding transmit
 sent_whole s r ok no_vlan pad none whole =
     let q = tx_setup s.registers in
-    transmitted_by s (tx.is_idle q) (leaves s.base s.memory (tx.place q) 16) r refl ok no_vlan pad none whole
+    transmitted_by s (is_still (tx_control s)) (leaves s.base s.memory (tx.place q) 16) r refl ok no_vlan pad none whole

@@ -1,5 +1,5 @@
 -- The two engines, each of which handles one descriptor of its ring at a time: what a step of one answers and leaves.
-use Rattle.std.specs.Prelude.{ℕ, ◌+◌, Result, Ok, Err}
+use Rattle.std.specs.Prelude.{ℕ, ◌+◌, ◌&&◌, not, Bool, Result, Ok, Err}
 use Rattle.em_regs.specs.declared.reg.Reg.TheVariants.{Rdh, Tdh}
 use Rattle.em_regs.specs.RegFile.{put}
 use Rattle.em_regs.specs.Setup.{rx_setup, tx_setup}
@@ -13,10 +13,12 @@ use Rattle.em_tx.specs.Cells.{Shown}
 use Rattle.em_tx.specs.Engine as tx
 use Rattle.em_tx.specs.declared.answer.TxAnswer.{TxAnswer}
 use Rattle.em_tx.specs.declared.answer.TxAnswer.TheVariants as tx_answer
+use Rattle.em_tx.specs.declared.control.TxControl.{TxControl}
 use Rattle.em_tx.specs.declared.refusal.TxRefusal.{TxRefusal}
 use Rattle.em_tx.specs.declared.refusal.TxRefusal.TheVariants as tx_refusal
 use Rattle.em_step.specs.Counts.{after_sent_count}
-use Rattle.em_step.specs.State.{State}
+use Rattle.em_step.specs.Loops.{mac_loops}
+use Rattle.em_step.specs.State.{State, is_adapter}
 use Rattle.em_step.specs.declared.event.Answer.{Answer}
 use Rattle.em_step.specs.declared.event.Answer.TheVariants.{Idle, Wrote, Fetched, Sent}
 use Rattle.em_step.specs.declared.refusal.Refusal.{Refusal}
@@ -55,9 +57,17 @@ rx_step s = rx_stepped s (received s)
 abbrev pub sending : State → Shown
 sending s = record { gathered = s.gathered; wire = s.wire; memory = s.memory }
 
--- the transmit engine's step, by the registers of its ring
+-- nothing is sent: in the second profile while the link is down, unless RCTL.LBM gives back what is sent
+abbrev pub is_halted : State → Bool
+is_halted s = is_adapter s.profile && (not s.link && not (mac_loops s))
+
+-- what it goes by: the registers of its ring, the profile, and the link
+abbrev pub tx_control : State → TxControl
+tx_control s = record { setup = tx_setup s.registers; profile = s.profile; halted = is_halted s }
+
+-- the transmit engine's step
 abbrev pub transmitted : State → Result (TxAnswer × Shown) TxRefusal
-transmitted s = tx.transmit (tx_setup s.registers) s.base (sending s)
+transmitted s = tx.transmit (tx_control s) s.base (sending s)
 
 -- memory, gathered octets and wire as the transmit engine leaves them
 abbrev pub with_shown : State → Shown → State

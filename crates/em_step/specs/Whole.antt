@@ -8,9 +8,11 @@ use Rattle.em_regs.specs.Setup.{rx_setup, tx_setup, value_of}
 use Rattle.em_rx.specs.Fifo.{after_arrival}
 use Rattle.em_rx.specs.Frame.{Frame}
 use Rattle.em_rx.specs.Receive as rx
+use Rattle.em_tx.specs.Control.{first}
 use Rattle.em_tx.specs.Descriptor.{address, length_of}
 use Rattle.em_tx.specs.Ring as tx
 use Rattle.em_step.specs.Arrival.{is_enabled}
+use Rattle.em_step.specs.Engines.{tx_control}
 use Rattle.em_step.specs.State.{State}
 use Rattle.em_step.specs.declared.event.Answer.{Answer}
 use Rattle.em_step.specs.declared.event.Answer.TheVariants.{Stored, Dropped}
@@ -66,9 +68,9 @@ pub record ReceivesWhole (s : State) (f : List ℕ) (frames : List Frame) (t : S
 abbrev pub padded : List ℕ → List ℕ
 padded packet = packet ++ replicate (60 - length packet) 0
 
--- the descriptor at TDH
+-- the descriptor at TDH, as it is read
 abbrev pub next_descriptor : State → List ℕ
-next_descriptor s = part s.memory (tx.place (tx_setup s.registers)) 16
+next_descriptor s = first (tx_control s) s.memory
 
 -- its buffer's octets
 abbrev pub next_packet : State → List ℕ

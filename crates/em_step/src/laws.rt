@@ -8,7 +8,7 @@ ghost use Rattle.em_regs.specs.Table.{is_stored, offset_of};
 ghost use Rattle.em_regs.specs.RegFile.{IsStored, address_low, address_high, eerd_value, left_at, put_eerd};
 ghost use Rattle.em_regs.specs.Setup.{rx_setup, tx_setup, value_of};
 ghost use Rattle.em_eeprom.specs.Eeprom.{IsEeprom, mac_of};
-ghost use Rattle.em_filter.specs.Bits.{lpe, vme};
+ghost use Rattle.em_filter.specs.Bits.{takes_long, vme};
 ghost use Rattle.em_pins.specs.Wire.{IsSelected, clocks_in, clocks_out, number_from, read_command};
 ghost use Rattle.em_rx.specs.Frame.{Frame};
 ghost use Rattle.em_step.specs.State.{State, status};
@@ -70,7 +70,7 @@ pub fn a_profile_stays()
 /// first frame whole into its buffer, and a transmit step sends the packet of its descriptor, padded.
 pub fn whole_frames()
     ensures arrives { (s : State) (f : List ℕ) (r : Answer × State) → step s (arrives f) ≡ Ok r →
-        lpe s.registers ≡ false → vme s.registers ≡ false → keeps_sequence s ≡ false →
+        takes_long s.profile s.registers ≡ false → vme s.registers ≡ false → keeps_sequence s ≡ false →
         KeepsAllButFifo s r.1 × Admits s f r.0 r.1 }
     ensures receives { (s : State) (r : Answer × State) → step s receives ≡ Ok r →
         (rx_setup s.registers).buffer ≡ 2048 → s.fifo.taken ≡ 0 → All IsPlain s.fifo.frames →

@@ -22,7 +22,7 @@ impl Adapter {
     }
 
     /// RCTL.LBM is set.
-    fn mac_loops(&self) -> bool
+    pub(crate) fn mac_loops(&self) -> bool
         ensures { result ≡ mac_loops (shows self.now) }
     {
         self.registers.look(Reg::Rctl) / LBM_BIT % 4 != 0

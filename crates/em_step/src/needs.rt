@@ -28,6 +28,6 @@ impl Adapter {
         ensures reads { AreHeld (shows self.now).base (shows self.now).memory result.reads }
         ensures writes { AreHeld (shows self.now).base (shows self.now).memory result.writes }
     {
-        needs(&self.gather, &self.memory, &self.registers.ring_tx())
+        needs(&self.gather, &self.memory, &self.tx_control())
     }
 }

@@ -6,7 +6,7 @@ use Rattle.std.proofs.lemmas.Bool.Decides.{nat_tests}
 use Rattle.em_address.specs.declared.kind.Kind.{Kind}
 use Rattle.em_filter.specs.declared.outcome.Verdict.TheVariants.{Reject, Accept}
 use Rattle.em_filter.specs.declared.outcome.Verdict.TheVariants.{Undersize as TooShort, Oversize as TooLong}
-use Rattle.em_filter.specs.Bits.{lpe}
+use Rattle.em_filter.specs.Bits.{takes_long}
 use Rattle.em_filter.specs.Filters.{longest, passes_address, passes_others, verdict}
 use Rattle.em_address.specs.Kind.{destination, kind_of}
 use Rattle.em_step.specs.Arrival.{is_enabled, lacks_room, judgement, after_arrived, after_miss, after_accept, arrival}
@@ -21,8 +21,8 @@ long_least : (lpe : Bool) (n : ℕ) → (if lpe then 16384 else 1522) < n → 64
 long_least true n h = omega arith
 long_least false n h = omega arith
 
-longest_least : (s : State) (f : List ℕ) → longest s.registers < length f + 4 → 64 ≤ length f + 4
-longest_least s f h = long_least (lpe s.registers) (length f + 4) h
+longest_least : (s : State) (f : List ℕ) → longest s.profile s.registers < length f + 4 → 64 ≤ length f + 4
+longest_least s f h = long_least (takes_long s.profile s.registers) (length f + 4) h
 
 abbrev answer : Answer × State → Answer
 answer r = r.0
@@ -38,7 +38,7 @@ module _ (s : State) (f : List ℕ) where
   -- the tests one after the other
   by_tests :
       (up en acc short long vlan : Bool) → s.link ≡ up → is_enabled s ≡ en → passes_address s.profile s.registers f ≡ acc →
-      nat_lt (length f + 4) 64 ≡ short → nat_lt (longest s.registers) (length f + 4) ≡ long →
+      nat_lt (length f + 4) 64 ≡ short → nat_lt (longest s.profile s.registers) (length f + 4) ≡ long →
       passes_others s.profile s.registers f ≡ vlan →
       IsFate s f (answer (
       if not up then (Dropped Down, s)
@@ -74,23 +74,23 @@ module _ (s : State) (f : List ℕ) where
   no_other (Dropped Rejected) ((link, enabled), inl accepted) = simp (link, enabled, accepted) refl
   no_other (Dropped Rejected) ((link, enabled), inr (accepted, (least, most), passes)) =
       let few : nat_lt (length f + 4) 64 ≡ false = le-ltb _ _ least in
-      let many : nat_lt (longest s.registers) (length f + 4) ≡ false = le-ltb _ _ most in
+      let many : nat_lt (longest s.profile s.registers) (length f + 4) ≡ false = le-ltb _ _ most in
       simp (link, enabled, accepted, few, many, passes) refl
   no_other (Dropped Undersize) ((link, enabled), accepted, short) =
       let few : nat_lt (length f + 4) 64 ≡ true = grind (arith, nat_tests) in
       simp (link, enabled, accepted, few) refl
   no_other (Dropped Oversize) ((link, enabled), accepted, long) =
       let few : nat_lt (length f + 4) 64 ≡ false = le-ltb _ _ (longest_least s f long) in
-      let many : nat_lt (longest s.registers) (length f + 4) ≡ true = grind (arith, nat_tests) in
+      let many : nat_lt (longest s.profile s.registers) (length f + 4) ≡ true = grind (arith, nat_tests) in
       simp (link, enabled, accepted, few, many) refl
   no_other (Dropped Missed) (((link, enabled), accepted, (least, most), passes), full) =
       let few : nat_lt (length f + 4) 64 ≡ false = le-ltb _ _ least in
-      let many : nat_lt (longest s.registers) (length f + 4) ≡ false = le-ltb _ _ most in
+      let many : nat_lt (longest s.profile s.registers) (length f + 4) ≡ false = le-ltb _ _ most in
       let room : lacks_room s f ≡ true = grind (arith, nat_tests) in
       simp (link, enabled, accepted, few, many, passes, room) refl
   no_other Stored (((link, enabled), accepted, (least, most), passes), fits) =
       let few : nat_lt (length f + 4) 64 ≡ false = le-ltb _ _ least in
-      let many : nat_lt (longest s.registers) (length f + 4) ≡ false = le-ltb _ _ most in
+      let many : nat_lt (longest s.profile s.registers) (length f + 4) ≡ false = le-ltb _ _ most in
       let room : lacks_room s f ≡ false = le-ltb _ _ fits in
       simp (link, enabled, accepted, few, many, passes, room) refl
   no_other Done is = absurd is

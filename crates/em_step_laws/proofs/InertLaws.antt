@@ -51,7 +51,7 @@ use Rattle.em_step.specs.Arrival.{admission, after_arrived, arrival, is_enabled,
 use Rattle.em_step.specs.Arrival.{with_sequence}
 use Rattle.em_step.specs.Counts.{after_buffer_count, after_frame_count, after_miss_count}
 use Rattle.em_step.specs.Engines.{after_rx_answer, after_tx_answer, rx_step, rx_stepped, sending, tx_step, tx_stepped}
-use Rattle.em_step.specs.Engines.{with_outcome, with_shown}
+use Rattle.em_step.specs.Engines.{tx_control, with_outcome, with_shown}
 use Rattle.em_step.specs.Event.{Event, reads, writes, pokes, arrives, links, receives, transmits}
 use Rattle.em_step_laws.specs.Inert.{AgreeInRules, Alike, IsNoRead}
 use Rattle.em_step.specs.State.{State, is_adapter}
@@ -69,9 +69,11 @@ agree_same : (m : Registers) → AgreeInRules m m
 agree_same m = record {
   vme = refl;
   en = refl;
+  sbp = refl;
   upe = refl;
   mpe = refl;
   lpe = refl;
+  lbm = refl;
   rdmts = refl;
   mo = refl;
   bam = refl;
@@ -123,9 +125,11 @@ agree_by : (m n k l : Registers) → StaysSame m n k l → AgreeInRules m n → 
 agree_by m n k l f h = record {
   vme = f _ (λ x. has x (2 ^ 30)) (offset_of Ctrl) (λ e. omega arith) h.vme;
   en = f _ (λ x. has x 0x2) (offset_of Rctl) (λ e. omega arith) h.en;
+  sbp = f _ (λ x. has x (2 ^ 2)) (offset_of Rctl) (λ e. omega arith) h.sbp;
   upe = f _ (λ x. has x (2 ^ 3)) (offset_of Rctl) (λ e. omega arith) h.upe;
   mpe = f _ (λ x. has x (2 ^ 4)) (offset_of Rctl) (λ e. omega arith) h.mpe;
   lpe = f _ (λ x. has x (2 ^ 5)) (offset_of Rctl) (λ e. omega arith) h.lpe;
+  lbm = f _ (λ x. x / 2 ^ 6 % 4) (offset_of Rctl) (λ e. omega arith) h.lbm;
   rdmts = f _ (λ x. x / 2 ^ 8 % 4) (offset_of Rctl) (λ e. omega arith) h.rdmts;
   mo = f _ (λ x. x / 2 ^ 12 % 4) (offset_of Rctl) (λ e. omega arith) h.mo;
   bam = f _ (λ x. has x (2 ^ 15)) (offset_of Rctl) (λ e. omega arith) h.bam;
@@ -245,7 +249,7 @@ verdict_same p m n f h = λ i.
     if not (accepts_same m n (destination f) h i || (source_same p m n (source f) h i || pmcf_same p m n f h i))
     then outcome.Reject
     else if nat_lt (length f + 4) 64 then outcome.Undersize
-    else if nat_lt (if h.lpe i then 16384 else 1522) (length f + 4) then outcome.Oversize
+    else if nat_lt (if (is_second p && h.sbp i) || h.lpe i then 16384 else 1522) (length f + 4) then outcome.Oversize
     else if not (vlan_same m n f h i && (cfi_same p m n f h i && dpf_same p m n f h i)) then outcome.Reject
     else outcome.Accept (kind_of (destination f))
 
@@ -444,9 +448,14 @@ transmit_alike : (s : State) (n : Registers) → AgreeInRules s.registers n
     → Alike (tx_step s) (tx_step (with_registers s n))
 transmit_alike s n h =
     let t : State = with_registers s n in
-    let same : tx_step t ≡ tx_stepped t (tx.transmit (tx_setup s.registers) s.base (sending s))
-    = ap (λ q. tx_stepped t (tx.transmit q s.base (sending s))) (tx_same s.registers n h) in
-    subst (λ x. Alike (tx_step s) x) (sym same) (tx_by s n (tx.transmit (tx_setup s.registers) s.base (sending s)) h)
+    let control : tx_control t ≡ tx_control s = λ i. record {
+      setup = tx_same s.registers n h i;
+      profile = s.profile;
+      halted = is_adapter s.profile && (not s.link && not (not (h.lbm i == 0)));
+    } in
+    let same : tx_step t ≡ tx_stepped t (tx.transmit (tx_control s) s.base (sending s))
+    = ap (λ q. tx_stepped t (tx.transmit q s.base (sending s))) control in
+    subst (λ x. Alike (tx_step s) x) (sym same) (tx_by s n (tx.transmit (tx_control s) s.base (sending s)) h)
 
 -- ---- any event
 

@@ -17,15 +17,15 @@ Receives s = (s.link ≡ true) × (is_enabled s ≡ true)
 abbrev pub IsAddressed : State → List ℕ → Bool → Type 0
 IsAddressed s f whether = passes_address s.profile s.registers f ≡ whether
 
--- the frame with its check sequence has at least 64 octets and at most as many as RCTL.LPE allows
+-- the frame with its check sequence has at least 64 octets and at most as many as RCTL allows
 abbrev pub IsShort : List ℕ → Type 0
 IsShort f = length f + 4 < 64
 
 abbrev pub IsLong : State → List ℕ → Type 0
-IsLong s f = longest s.registers < length f + 4
+IsLong s f = longest s.profile s.registers < length f + 4
 
 abbrev pub IsSized : State → List ℕ → Type 0
-IsSized s f = (64 ≤ length f + 4) × (length f + 4 ≤ longest s.registers)
+IsSized s f = (64 ≤ length f + 4) × (length f + 4 ≤ longest s.profile s.registers)
 
 -- the other filters let it pass, or not: the VLAN filter, and those of the second profile
 abbrev pub Passes : State → List ℕ → Bool → Type 0

@@ -18,9 +18,11 @@ pub record AgreeInRules (m n : Registers) : Type 0 where
   pub vme : vme n ≡ vme m
   -- RCTL
   pub en : has (rctl n) 0x2 ≡ has (rctl m) 0x2
+  pub sbp : has (rctl n) (2 ^ 2) ≡ has (rctl m) (2 ^ 2)
   pub upe : upe n ≡ upe m
   pub mpe : mpe n ≡ mpe m
   pub lpe : lpe n ≡ lpe m
+  pub lbm : rctl n / 2 ^ 6 % 4 ≡ rctl m / 2 ^ 6 % 4
   pub rdmts : rctl n / 2 ^ 8 % 4 ≡ rctl m / 2 ^ 8 % 4
   pub mo : mo n ≡ mo m
   pub bam : bam n ≡ bam m

@@ -3,13 +3,12 @@ use Rattle.std.proofs.Common.{◌≡◌, ◌∙◌, ℕ, ◌≤◌, Bool, true, 
 use Rattle.std.proofs.Common.{Option, Some, None, refl, sym, ap, subst, arith, length-append}
 use Rattle.std.specs.Prelude.{Result, Ok, Err, not, ◌==◌, ◌||◌, nat_lt}
 use Rattle.std.proofs.lemmas.List.{length-map}
-use Rattle.em_mem.specs.Memory.{leaves, part, put}
+use Rattle.em_mem.specs.Memory.{leaves, put}
 use Rattle.em_regs.specs.declared.reg.Reg.{Reg}
 use Rattle.em_regs.specs.declared.setup.TxSetup.{TxSetup}
 use Rattle.em_regs.specs.declared.table.Kind.{Kind}
 use Rattle.em_regs.specs.declared.table.Kind.TheVariants.{Stored, Control, EepromRead, Status, Interrupt, Counter}
 use Rattle.em_regs.specs.declared.table.Kind.TheVariants.{EepromPins, PhyCommand, Uncounted}
-use Rattle.em_regs.specs.Setup.{tx_setup}
 use Rattle.em_regs.specs.Table.{answers_at, reg_of, row_of}
 use Rattle.em_latch.specs.Latches.{is_latched}
 use Rattle.em_filter.specs.Filters.{verdict}
@@ -21,18 +20,20 @@ use Rattle.em_rx.specs.declared.step.RxAnswer.TheVariants as rx_answer
 use Rattle.em_rx.specs.declared.refusal.RxRefusal.{RxRefusal}
 use Rattle.em_rx.specs.Receive as rx
 use Rattle.em_tx.specs.Cells.{Shown}
+use Rattle.em_tx.specs.Control.{first, is_still}
 use Rattle.em_tx.specs.Engine.{fetch, gather, handle, refusal, send, sends, transmit, unless}
 use Rattle.em_tx.specs.Frame.{frame}
-use Rattle.em_tx.specs.Ring.{is_idle, place}
+use Rattle.em_tx.specs.Ring.{place}
 use Rattle.em_tx.specs.Wire.{let_go}
 use Rattle.em_tx.specs.declared.answer.TxAnswer.{TxAnswer}
 use Rattle.em_tx.specs.declared.answer.TxAnswer.TheVariants as tx_answer
+use Rattle.em_tx.specs.declared.control.TxControl.{TxControl}
 use Rattle.em_tx.specs.declared.refusal.TxRefusal.{TxRefusal}
 use Rattle.em_tx.specs.declared.refusal.TxRefusal.TheVariants as tx_refusal
 use Rattle.em_step.specs.Access.{after_link, after_read, after_write, after_write_by, differ, gives, gives_by, has, is_reset_by}
 use Rattle.em_step.specs.Arrival.{after_arrived, arrival, is_enabled, judgement, lacks_room}
 use Rattle.em_step.specs.Engines.{after_rx_answer, after_tx_answer, received, rx_stepped, sending, transmitted, tx_stepped}
-use Rattle.em_step.specs.Engines.{with_outcome, with_shown}
+use Rattle.em_step.specs.Engines.{tx_control, with_outcome, with_shown}
 use Rattle.em_step.specs.Event.{Event, reads, writes, pokes, arrives, links, receives, transmits}
 use Rattle.em_step.specs.State.{State, without_frames}
 use Rattle.em_step.specs.Step.{at_none, at_register, step}
@@ -188,13 +189,13 @@ tried_same k true outside s m n same = refl
 tried_same k false true s m n same = refl
 tried_same k false false s m n same = same
 
-transmit_same : (k : ℕ) (q : TxSetup) (base : ℕ) (s : Shown) → k ≤ length s.wire
+transmit_same : (k : ℕ) (q : TxControl) (base : ℕ) (s : Shown) → k ≤ length s.wire
     → transmit q base (shown_without k s) ≡ sent_in k (transmit q base s)
 unfolding transmit
 transmit_same k q base s l =
-    let d = part s.memory (place q) 16 in
-    tried_same k (is_idle q) (leaves base s.memory (place q) 16) s _ _
-    (unless_same k (refusal base s.gathered s.memory d) _ _ (handle_same k q d s l))
+    let d = first q s.memory in
+    tried_same k (is_still q) (leaves base s.memory (place q.setup) 16) s _ _
+    (unless_same k (refusal q.profile base s.gathered s.memory d) _ _ (handle_same k q.setup d s l))
 
 tx_answer_same : (k : ℕ) (s : State) (a : TxAnswer)
     → after_tx_answer (without_frames k s) a ≡ without_of k (after_tx_answer s a)
@@ -221,7 +222,7 @@ step_same k s (arrives f) l =
 step_same k s (links up) l = ap (λ t. Ok (Done, t)) (either k (differ up s.link) _ _)
 step_same k s receives l = rx_same k s (received s)
 step_same k s transmits l =
-    ap (tx_stepped (without_frames k s)) (transmit_same k (tx_setup s.registers) s.base (sending s) l)
+    ap (tx_stepped (without_frames k s)) (transmit_same k (tx_control s) s.base (sending s) l)
     ∙ tx_same k s (transmitted s)
 
 -- ---- no event takes frames off the wire
@@ -333,12 +334,12 @@ tried_longer n true outside s m l longer = l
 tried_longer n false true s m l longer = tt
 tried_longer n false false s m l longer = longer
 
-transmit_longer : (q : TxSetup) (base : ℕ) (s : Shown) → Longer (length s.wire) (transmit q base s)
+transmit_longer : (q : TxControl) (base : ℕ) (s : Shown) → Longer (length s.wire) (transmit q base s)
 unfolding transmit
 transmit_longer q base s =
-    let d = part s.memory (place q) 16 in
-    tried_longer (length s.wire) (is_idle q) (leaves base s.memory (place q) 16) s _ (all (length s.wire))
-    (unless_longer (length s.wire) (refusal base s.gathered s.memory d) (handle q d s) (handle_longer q d s))
+    let d = first q s.memory in
+    tried_longer (length s.wire) (is_still q) (leaves base s.memory (place q.setup) 16) s _ (all (length s.wire))
+    (unless_longer (length s.wire) (refusal q.profile base s.gathered s.memory d) (handle q.setup d s) (handle_longer q.setup d s))
 
 tx_answer_grows : (s : State) (a : TxAnswer) → Grows (length s.wire) (after_tx_answer s a)
 tx_answer_grows s tx_answer.Idle = all (length s.wire)
@@ -370,7 +371,7 @@ step_grows s (links up) r is =
     (either_grows (differ up s.link) _ _ (length s.wire) (all (length s.wire)) (all (length s.wire))) is
 step_grows s receives r is = rx_grows s (received s) r is
 step_grows s transmits r is =
-    tx_grows s (transmitted s) r (transmit_longer (tx_setup s.registers) s.base (sending s)) is
+    tx_grows s (transmitted s) r (transmit_longer (tx_control s) s.base (sending s)) is
 
 -- ---- what notes tell
 dma_same : (k : ℕ) (s : State) (e : Event) → dma_of (without_frames k s) e ≡ dma_of s e

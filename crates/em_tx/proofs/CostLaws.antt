@@ -20,35 +20,38 @@ use Rattle.std.proofs.Common.{
   refl,
   arith,
 }
-use Rattle.std.specs.Prelude.{nat_lt}
+use Rattle.std.specs.Prelude.{◌||◌, nat_lt}
 use Rattle.std.proofs.Common.{length-append}
 use Rattle.std.proofs.lemmas.List.{length-take}
 use Rattle.std.proofs.lemmas.Bool.Decides.{nat_tests}
 use Rattle.em_mem.specs.Memory.{leaves, part}
+use Rattle.em_regs.specs.declared.profile.Profile.{Profile}
 use Rattle.em_regs.specs.declared.setup.TxSetup.{TxSetup}
 use Rattle.em_tx.specs.declared.answer.TxAnswer.{TxAnswer}
 use Rattle.em_tx.specs.declared.answer.TxAnswer.TheVariants.{Idle}
+use Rattle.em_tx.specs.declared.control.TxControl.{TxControl}
 use Rattle.em_tx.specs.declared.refusal.TxRefusal.{TxRefusal}
 use Rattle.em_tx.specs.declared.refusal.TxRefusal.TheVariants.{DmaRange, Extended, TooLong}
 use Rattle.em_tx.specs.Cells.{Shown}
+use Rattle.em_tx.specs.Control.{first, is_over, is_still}
 use Rattle.em_tx.specs.Descriptor.{address, length_of, dext, rs}
 use Rattle.em_tx.specs.Engine.{refusal, gather, sends, handle, handling_cost, unless, transmit, cost}
 use Rattle.em_tx.specs.Frame.{frame}
-use Rattle.em_tx.specs.Ring.{is_idle, place}
+use Rattle.em_tx.specs.Ring.{place}
 use Rattle.em_tx.proofs.FrameLaws.{parts, frame_len_most}
 
-few_by_test : (a b : Bool) (rest : Option TxRefusal)
-    → cond a (Some Extended) (cond b (Some TooLong) rest) ≡ None → b ≡ false
-few_by_test true b rest is = cc
-few_by_test false true rest is = cc
-few_by_test false false rest is = refl
+few_by_test : (a b c : Bool) (rest : Option TxRefusal)
+    → cond a (Some Extended) (cond (b || c) (Some TooLong) rest) ≡ None → b ≡ false
+few_by_test true b c rest is = cc
+few_by_test false true c rest is = cc
+few_by_test false false c rest is = refl
 
 -- a descriptor that is not refused leaves at most 16,380 octets gathered
-few : (base : ℕ) (g m d : List ℕ) → refusal base g m d ≡ None → length g + length_of d ≤ 16380
+few : (p : Profile) (base : ℕ) (g m d : List ℕ) → refusal p base g m d ≡ None → length g + length_of d ≤ 16380
 unfolding refusal
-few base g m d none =
+few p base g m d none =
     let small : nat_lt 16380 (length g + length_of d) ≡ false
-    = few_by_test (dext d) (nat_lt 16380 (length g + length_of d)) _ none in
+    = few_by_test (dext d) (nat_lt 16380 (length g + length_of d)) (is_over p (length_of d)) _ none in
     grind (arith, nat_tests)
 
 of_flags : (b c : Bool) (n f : ℕ) → n ≤ 16380 → f ≤ 16384 → n + cond b 1 0 + cond c f 0 ≤ 32765
@@ -84,14 +87,14 @@ of_refusal : (o : Option TxRefusal) (y r : TxAnswer × Shown) (n : ℕ)
 of_refusal None y r n then is = then refl
 of_refusal (Some refused) y r n then is = cc
 
-pub cost_most : (q : TxSetup) (base : ℕ) (s : Shown) (r : TxAnswer × Shown) → transmit q base s ≡ Ok r
+pub cost_most : (q : TxControl) (base : ℕ) (s : Shown) (r : TxAnswer × Shown) → transmit q base s ≡ Ok r
     → cost q s ≤ 32765
 unfolding transmit
 cost_most q base s r is =
-    let d = part s.memory (place q) 16 in
-    let n = handling_cost q d s in
-    let small = λ (none : refusal base s.gathered s.memory d ≡ None). handling_most q d s
-    (few base s.gathered s.memory d none) in
-    of_idle (is_idle q) _ s r n
-    (of_range (leaves base s.memory (place q) 16) _ r n
-    (of_refusal (refusal base s.gathered s.memory d) (handle q d s) r n small)) is
+    let d = first q s.memory in
+    let n = handling_cost q.setup d s in
+    let small = λ (none : refusal q.profile base s.gathered s.memory d ≡ None). handling_most q.setup d s
+    (few q.profile base s.gathered s.memory d none) in
+    of_idle (is_still q) _ s r n
+    (of_range (leaves base s.memory (place q.setup) 16) _ r n
+    (of_refusal (refusal q.profile base s.gathered s.memory d) (handle q.setup d s) r n small)) is

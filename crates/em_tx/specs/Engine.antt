@@ -7,6 +7,7 @@ use Rattle.std.specs.Prelude.{
   ℕ,
   ◌+◌,
   ◌&&◌,
+  ◌||◌,
   nat_lt,
   not,
   Bool,
@@ -26,22 +27,25 @@ use Rattle.std.specs.Prelude.{
   IsTrue,
 }
 use Rattle.em_mem.specs.Memory.{LiesIn, leaves, part, put}
+use Rattle.em_regs.specs.declared.profile.Profile.{Profile}
 use Rattle.em_regs.specs.declared.setup.TxSetup.{TxSetup}
 use Rattle.em_tx.specs.declared.answer.TxAnswer.{TxAnswer}
 use Rattle.em_tx.specs.declared.answer.TxAnswer.TheVariants.{Idle, Fetched, Sent}
 use Rattle.em_tx.specs.declared.refusal.TxRefusal.{TxRefusal}
 use Rattle.em_tx.specs.declared.refusal.TxRefusal.TheVariants.{DmaRange, Extended, TooLong, Memory}
 use Rattle.em_tx.specs.Cells.{Shown}
+use Rattle.em_tx.specs.Control.{first, is_over, is_still}
 use Rattle.em_tx.specs.Descriptor.{address, length_of, eop, rs, dext}
 use Rattle.em_tx.specs.Frame.{frame, kind_sent}
-use Rattle.em_tx.specs.Ring.{is_idle, place, next, causes}
+use Rattle.em_tx.specs.Ring.{place, next, causes}
+use Rattle.em_tx.specs.declared.control.TxControl.{TxControl}
 
 -- the first cause that refuses the descriptor d, over gathered octets and memory from a base on; of a length of 0 the
 -- address is not looked at
-unfoldable pub refusal : ℕ → List ℕ → List ℕ → List ℕ → Option TxRefusal
-refusal base g m d =
+unfoldable pub refusal : Profile → ℕ → List ℕ → List ℕ → List ℕ → Option TxRefusal
+refusal p base g m d =
     if dext d then Some Extended
-    else if nat_lt 16380 (length g + length_of d) then Some TooLong
+    else if nat_lt 16380 (length g + length_of d) || is_over p (length_of d) then Some TooLong
     else if nat_lt 0 (length_of d) && leaves base m (address d) (length_of d) then Some DmaRange
     else None
 
@@ -92,16 +96,16 @@ unless None x = Ok x
 unless (Some refused) x = Err refused
 
 -- the answer and what is shown next, or the first cause of a refusal, where memory begins at a base
-unfoldable pub transmit : TxSetup → ℕ → Shown → Result (TxAnswer × Shown) TxRefusal
+unfoldable pub transmit : TxControl → ℕ → Shown → Result (TxAnswer × Shown) TxRefusal
 transmit q base s =
-    if is_idle q then Ok (Idle, s)
-    else if leaves base s.memory (place q) 16 then Err DmaRange
-    else let d = part s.memory (place q) 16 in unless (refusal base s.gathered s.memory d) (handle q d s)
+    if is_still q then Ok (Idle, s)
+    else if leaves base s.memory (place q.setup) 16 then Err DmaRange
+    else let d = first q s.memory in unless (refusal q.profile base s.gathered s.memory d) (handle q.setup d s)
 
 -- what refuses a step: its first cause, or, where it has none and is not idle, the want of memory
-abbrev pub Refuses : TxSetup → ℕ → Shown → TxRefusal → Type 0
+abbrev pub Refuses : TxControl → ℕ → Shown → TxRefusal → Type 0
 Refuses q base s refused =
-    ((refused ≡ Memory) × IsTrue (not (is_idle q)) × IsOk (transmit q base s)) ⊎ (transmit q base s ≡ Err refused)
+    ((refused ≡ Memory) × IsTrue (not (is_still q)) × IsOk (transmit q base s)) ⊎ (transmit q base s ≡ Err refused)
 
 -- what the handling of the descriptor d costs beyond the least
 abbrev pub handling_cost : TxSetup → List ℕ → Shown → ℕ
@@ -110,8 +114,8 @@ handling_cost q d s =
     length_of d + (if rs d then 1 else 0) + (if sends d (length octets) then length (frame q d octets) else 0)
 
 -- what a step that is not refused costs beyond the least
-abbrev pub cost : TxSetup → Shown → ℕ
-cost q s = if is_idle q then 0 else handling_cost q (part s.memory (place q) 16) s
+abbrev pub cost : TxControl → Shown → ℕ
+cost q s = if is_still q then 0 else handling_cost q.setup (first q s.memory) s
 
 -- how many octets the frame has that the step sent, if it did
 abbrev pub octets_sent : TxAnswer → ℕ

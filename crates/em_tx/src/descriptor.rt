@@ -1,9 +1,10 @@
 //! The transmit descriptor (manual, chapter on transmit description, legacy format).
 ghost use Rattle.std.specs.Prelude.{◌≡◌, slice_index};
+ghost use Rattle.em_tx.specs.Control.{as_read, without_octets};
 ghost use Rattle.em_tx.specs.Descriptor.{address, dext, eop, length_of, rs, special, vle};
 
 use byteorder::{ByteOrder, LittleEndian};
-use em_regs::DESCRIPTOR_OCTETS;
+use em_regs::{DESCRIPTOR_OCTETS, Profile};
 use std::marker::Model;
 
 /// Where its fields lie.
@@ -58,6 +59,30 @@ impl TxDescriptor {
     pub fn of_octets(octets: [u8; 16]) -> TxDescriptor
         ensures { result ≡ octets }
     {
+        TxDescriptor { octets }
+    }
+
+    /// The descriptor as an adapter reads it: in the second profile one with the address 0 transfers nothing, and so has
+    /// no octets.
+    #[inline(always)]
+    #[tactic(auto, unfolding(crate::specs::Control::as_read))]
+    pub fn as_read(self, profile: Profile) -> TxDescriptor
+        ensures { result ≡ as_read profile self }
+    {
+        if matches!(profile, Profile::Adapter) && self.address() == 0 {
+            self.without_octets()
+        } else {
+            self
+        }
+    }
+
+    /// The descriptor with a length of 0.
+    fn without_octets(self) -> TxDescriptor
+        ensures { result ≡ without_octets self }
+    {
+        let mut octets = self.octets;
+        octets[LENGTH] = 0;
+        octets[LENGTH + 1] = 0;
         TxDescriptor { octets }
     }
 

@@ -7,6 +7,7 @@ ghost use Rattle.em_tx.specs.Needs.{buffer, needs, status, written_at, written_b
 ghost use Rattle.em_tx.specs.Undo.{ChangeFits, undo_change};
 
 use crate::change::{Change, Status};
+use crate::control::TxControl;
 use crate::descriptor::{STATUS, TxDescriptor};
 use crate::engine::refusal_of;
 use crate::gather::Gather;
@@ -14,27 +15,27 @@ use crate::ring;
 use crate::undo::TxUndo;
 use em_mem::laws::places_are_small;
 use em_mem::{GuestMemory, MOST_END, Needs, Range};
-use em_regs::{DESCRIPTOR_OCTETS, TxSetup};
+use em_regs::DESCRIPTOR_OCTETS;
 
 /// What the next step reads of guest memory, and what it writes there: it reads its descriptor and then the buffer, and
 /// writes the status octet where RS asks for it. What lies behind the first range the descriptor's octets say, as they
 /// are in memory now.
-pub fn needs(gather: &Gather, memory: &GuestMemory, setup: &TxSetup) -> Needs
-    ensures needs { result ≡ needs setup.now memory.now.base gather.now.octets memory.now.octets }
+pub fn needs(gather: &Gather, memory: &GuestMemory, control: &TxControl) -> Needs
+    ensures needs { result ≡ needs control.now memory.now.base gather.now.octets memory.now.octets }
     ensures reads { AreHeld memory.now.base memory.now.octets result.reads }
     ensures writes { AreHeld memory.now.base memory.now.octets result.writes }
 {
-    if setup.ring().is_idle() {
+    if control.is_still() {
         return Needs::nothing();
     }
-    let Some(found) = ring::first(memory, setup) else {
+    let Some(found) = ring::first(memory, control) else {
         return Needs::nothing();
     };
     let descriptor = Range {
         at: found.place,
         len: DESCRIPTOR_OCTETS as u64,
     };
-    if refusal_of(gather, memory, &found.descriptor).is_some() {
+    if refusal_of(control.profile, gather, memory, &found.descriptor).is_some() {
         return Needs::reads_only(descriptor);
     }
     places_are_small(memory);

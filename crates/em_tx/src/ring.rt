@@ -1,8 +1,10 @@
 //! The ring of transmit descriptors, by its set-up.
 ghost use Rattle.std.specs.Prelude.{◌≡◌, ◌+◌, ◌*◌, ◌≤◌, ◌<◌, ◌^◌, IfSome, IfNone, length, true};
-ghost use Rattle.em_mem.specs.Memory.{IsHeld, leaves, part};
+ghost use Rattle.em_mem.specs.Memory.{IsHeld, leaves};
+ghost use Rattle.em_tx.specs.Control as spec;
 ghost use Rattle.em_tx.specs.Ring.{causes, place};
 
+use crate::control::TxControl;
 use crate::descriptor::TxDescriptor;
 use bitflags::Flags;
 use em_mem::GuestMemory;
@@ -34,18 +36,19 @@ pub(crate) struct Found {
     pub(crate) descriptor: TxDescriptor,
 }
 
-/// The first descriptor; none where it leaves memory.
-pub(crate) fn first(memory: &GuestMemory, setup: &TxSetup) -> Option<Found>
-    ensures place { IfSome result (λ found. found.place ≡ place setup.now) }
-    ensures octets { IfSome result (λ found. found.descriptor ≡ part memory.now.octets (place setup.now) 16) }
-    ensures held { IfSome result (λ found. IsHeld memory.now (place setup.now) 16) }
-    ensures none { IfNone result (leaves memory.now.base memory.now.octets (place setup.now) 16 ≡ true) }
+/// The first descriptor, as it is read; none where it leaves memory.
+pub(crate) fn first(memory: &GuestMemory, control: &TxControl) -> Option<Found>
+    ensures place { IfSome result (λ found. found.place ≡ place control.now.setup) }
+    ensures octets { IfSome result (λ found. found.descriptor ≡ spec.first control.now memory.now.octets) }
+    ensures held { IfSome result (λ found. IsHeld memory.now (place control.now.setup) 16) }
+    ensures none { IfNone result (leaves memory.now.base memory.now.octets (place control.now.setup) 16 ≡ true) }
 {
     places_are_small(memory);
+    let setup = &control.setup;
     let place = setup.ring().address_of(setup.head)?;
     if !memory.holds(place, DESCRIPTOR_OCTETS as u64) {
         return None;
     }
-    let descriptor = TxDescriptor::of_octets(memory.read_array(place));
+    let descriptor = TxDescriptor::of_octets(memory.read_array(place)).as_read(control.profile);
     Some(Found { place, descriptor })
 }

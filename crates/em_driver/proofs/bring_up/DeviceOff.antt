@@ -3,13 +3,16 @@ use Rattle.std.proofs.Common.{◌≡◌, ◌∙◌, ◌⊎◌, ◌||◌, ◌==�
 use Rattle.std.proofs.Common.{List, [], refl, sym, ap, subst, inl, inr, arith}
 use Rattle.std.proofs.Common.{Ok, if◌then◌else◌}
 use Rattle.std.specs.Prelude.{nat_le, bit_and, All}
+use Rattle.em_filter.specs.Bits.{takes_long}
+use Rattle.em_regs.specs.declared.profile.Profile.{Profile}
 use Rattle.em_regs.specs.declared.reg.Reg.TheVariants.{Tctl}
 use Rattle.em_regs.specs.Setup.{value_of, rx_setup, tx_setup, buffer_size}
 use Rattle.em_rx.specs.Frame.{Frame}
+use Rattle.em_tx.specs.Control.{is_still}
 use Rattle.em_tx.specs.Engine.{transmit}
 use Rattle.em_tx.specs.Ring as tx
 use Rattle.em_tx.specs.declared.answer.TxAnswer.TheVariants as tx_answer
-use Rattle.em_step.specs.Engines.{sending, transmitted, tx_step, tx_stepped}
+use Rattle.em_step.specs.Engines.{is_halted, sending, transmitted, tx_control, tx_step, tx_stepped}
 use Rattle.em_step.specs.State.{State}
 use Rattle.em_step.specs.Step.{step}
 use Rattle.em_step.specs.Whole.{Admits, IsPlain, KeepsAllButFifo, ReceivesWhole}
@@ -36,7 +39,8 @@ tx_idle s r off h =
     let none : q.enabled ≡ false = ap (λ v. bit_and v 0x2 == 0x2) off in
     let idle : tx.is_idle q ≡ true
     = idle_is q.enabled (nat_le q.count q.head) (nat_le q.count q.tail) (q.head == q.tail) none in
-    let is : transmitted s ≡ Ok (tx_answer.Idle, sending s) = if_true _ _ _ idle in
+    let still : is_still (tx_control s) ≡ true = ap (λ (b : Bool). b || is_halted s) idle in
+    let is : transmitted s ≡ Ok (tx_answer.Idle, sending s) = if_true _ _ _ still in
     ok_is (Idle, s) r (sym (ap (tx_stepped s) is) ∙ h)
   where
     if_true : {A : Type 0} (b : Bool) (x y : A) → b ≡ true → (if b then x else y) ≡ x
@@ -83,7 +87,9 @@ received_off s t h (inr r) = absurd (not_enabled s h r.2.enabled)
 pub off_turn : (s : State) (t : Turn) (r : Answer × State) → IsOff s → step s (event_of t) ≡ Ok r
     → Rests s r.1 × (stored_by t r.0 ≡ [])
 off_turn s (Arrive f) r h is =
-    let a = arrived s f r is (ap (λ v. bit_and v 0x20 == 0x20) h.rctl) h.untagged
+    let short : takes_long s.profile s.registers ≡ false
+    = ap (λ (p : Profile). takes_long p s.registers) h.profile ∙ ap (λ v. bit_and v 0x20 == 0x20) h.rctl in
+    let a = arrived s f r is short h.untagged
     (no_sequences s h.profile) in
     admitted_off s r.1 f r.0 h a.0 a.1
 off_turn s RxStep r h is = (

@@ -3,7 +3,7 @@ use Rattle.std.proofs.Common.{◌≡◌, ◌∙◌, ◌||◌, ◌≤◌, ℕ, �
 use Rattle.std.proofs.Common.{length, drop, refl, sym, ap, arith, Option, Some, None, Ok, Err}
 use Rattle.std.specs.Prelude.{nat_lt}
 use Rattle.std.proofs.lemmas.List.{length-take}
-use Rattle.em_mem.specs.Memory.{leaves, part, put}
+use Rattle.em_mem.specs.Memory.{leaves, put}
 use Rattle.em_mem.proofs.NeedsLaws.{lies_by_test}
 use Rattle.em_mem.proofs.PutLaws.{length-put}
 use Rattle.em_regs.specs.Setup.{rx_setup, tx_setup}
@@ -18,6 +18,7 @@ use Rattle.em_rx.specs.declared.refusal.RxRefusal.TheVariants as rx_refusal
 use Rattle.em_regs.specs.declared.setup.RxSetup.{RxSetup}
 use Rattle.em_regs.specs.declared.setup.TxSetup.{TxSetup}
 use Rattle.em_tx.specs.Cells.{Shown}
+use Rattle.em_tx.specs.Control.{first as first_of, is_still}
 use Rattle.em_tx.specs.Descriptor.{rs}
 use Rattle.em_tx.specs.Engine as tx
 use Rattle.em_tx.specs.Frame.{frame}
@@ -29,7 +30,7 @@ use Rattle.em_tx.specs.declared.refusal.TxRefusal.TheVariants as tx_refusal
 use Rattle.em_step.specs.Arrival.{arrival, is_enabled, judgement, lacks_room}
 use Rattle.em_step.specs.Arrival.{after_accept, after_arrived, after_miss}
 use Rattle.em_step.specs.Engines.{after_tx_answer, rx_stepped, rx_step, sending, tx_stepped, tx_step}
-use Rattle.em_step.specs.Engines.{with_shown}
+use Rattle.em_step.specs.Engines.{tx_control, with_shown}
 use Rattle.em_step.specs.State.{State}
 use Rattle.em_step.specs.Step.{step}
 use Rattle.em_step.specs.declared.event.Answer.{Answer}
@@ -157,22 +158,22 @@ transmitted_by : (s : State) (idle a : Bool) (r : Answer × State)
     → leaves s.base s.memory (tx_ring.place (tx_setup s.registers)) 16 ≡ a
     → tx_stepped s (if idle then Ok (tx_answer.Idle, sending s)
     else if a then Err tx_refusal.DmaRange
-    else tx.unless (tx.refusal s.base s.gathered s.memory (part s.memory (tx_ring.place (tx_setup s.registers)) 16))
-    (tx.handle (tx_setup s.registers) (part s.memory (tx_ring.place (tx_setup s.registers)) 16) (sending s))) ≡ Ok r
+    else tx.unless (tx.refusal s.profile s.base s.gathered s.memory (first_of (tx_control s) s.memory))
+    (tx.handle (tx_setup s.registers) (first_of (tx_control s) s.memory) (sending s))) ≡ Ok r
     → SameRange s r.1
 transmitted_by s true a r x is = in_other (ap (λ z. z.1) (sym (ok_is _ r is))) (record { base = refl; size = refl })
 transmitted_by s false true r x is = cc
 transmitted_by s false false r x is =
     let q = tx_setup s.registers in
-    let d : List ℕ = part s.memory (tx_ring.place q) 16 in
-    stepped s (tx.refusal s.base s.gathered s.memory d) (tx.handle q d (sending s)) r
+    let d : List ℕ = first_of (tx_control s) s.memory in
+    stepped s (tx.refusal s.profile s.base s.gathered s.memory d) (tx.handle q d (sending s)) r
     (handled q d (sending s) (lies_by_test s.base s.memory (tx_ring.place q) 16 x).to) is
 
 transmitted : (s : State) (r : Answer × State) → tx_step s ≡ Ok r → SameRange s r.1
 unfolding tx.transmit
 transmitted s r is =
     let q = tx_setup s.registers in
-    transmitted_by s (tx_ring.is_idle q) (leaves s.base s.memory (tx_ring.place q) 16) r refl is
+    transmitted_by s (is_still (tx_control s)) (leaves s.base s.memory (tx_ring.place q) 16) r refl is
 
 -- ---- turns
 

@@ -148,7 +148,7 @@ stays l s t h is = subst (λ x. Moves l s x []) (sym is) (moves_none l s h)
 
 sent : (l : Layout) (s t : State) → IsDrivenBut l s → SendsWhole s t → Moves l s t []
 sent l s t h r =
-    let k = sends l s t h.layout h.sending r in
+    let k = sends l s t h.receiving.profile h.layout h.sending r in
     let w = k.0 in
     record {
       layout = laid_same l s t r.base w.size h.layout;
@@ -176,7 +176,7 @@ turn_moves l s RxStep r h is = rx_turn_moves l s r.1 [] h (receive_turn l s r h.
 turn_moves l s TxStep r h is =
     sent_or_not l s r.1 h
     (sent_whole s r is (no_tags l s h.sending) (pads l s h.sending) h.sending.gathered
-    (is_whole l s h.layout h.sending))
+    (is_whole l s h.receiving.profile h.layout h.sending))
 
 -- ---- what is driven stays so
 

@@ -17,7 +17,7 @@ use Rattle.em_regs.specs.declared.reg.Reg.TheVariants.{Rctl, Rdh, Rdt}
 use Rattle.em_regs.specs.RegFile as registers
 use Rattle.em_regs.specs.Setup.{value_of, rx_setup, buffer_size}
 use Rattle.em_regs.specs.Storage.{Registers}
-use Rattle.em_filter.specs.Bits.{lpe}
+use Rattle.em_filter.specs.Bits.{takes_long}
 use Rattle.em_rx.specs.Frame.{Frame}
 use Rattle.em_rx.specs.Receive as rx
 use Rattle.em_step.specs.Arrival.{keeps_sequence}
@@ -344,5 +344,6 @@ buffer_whole l s h = ap buffer_size h.rctl
 pub no_sequences : (s : State) → s.profile ≡ Table → keeps_sequence s ≡ false
 no_sequences s first = ap (λ (p : Profile). is_adapter p && not (has (value_of s.registers Rctl) 0x0400_0000)) first
 
-pub no_long_frames : (l : Layout) (s : State) → IsReceivingBut l s → lpe s.registers ≡ false
-no_long_frames l s h = ap (λ v. bit_and v 0x20 == 0x20) h.rctl
+pub no_long_frames : (l : Layout) (s : State) → IsReceivingBut l s → takes_long s.profile s.registers ≡ false
+no_long_frames l s h =
+    ap (λ (p : Profile). takes_long p s.registers) h.profile ∙ ap (λ v. bit_and v 0x20 == 0x20) h.rctl

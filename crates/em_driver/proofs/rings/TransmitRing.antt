@@ -7,9 +7,12 @@ use Rattle.std.specs.Prelude.{slice_index, ◌==◌, if◌then◌else◌, bit_an
 use Rattle.std.proofs.lemmas.Bool.{cases_eq}
 use Rattle.byteorder.specs.Endian.{little_number}
 use Rattle.em_mem.specs.Memory.{part, put}
+use Rattle.em_regs.specs.declared.profile.Profile.{Profile}
+use Rattle.em_regs.specs.declared.profile.Profile.TheVariants.{Table}
 use Rattle.em_regs.specs.declared.reg.Reg.TheVariants.{Vet, Tdh, Tdt}
 use Rattle.em_regs.specs.RegFile as registers
 use Rattle.em_regs.specs.Setup.{value_of, tx_setup}
+use Rattle.em_tx.specs.Control.{as_read}
 use Rattle.em_tx.specs.Descriptor as tx_descriptors
 use Rattle.em_tx.specs.Ring as tx
 use Rattle.em_step.specs.State.{State}
@@ -228,13 +231,22 @@ address_is : (d : List ℕ) → tx_descriptors.address d ≡ little_number 8 d
 unfolding tx_descriptors.address
 address_is d = refl
 
-next_at : (l : Layout) (s : State) → IsSending l s → next_descriptor s ≡ tx_at l s (tdh s)
-next_at l s h = ap (λ x. part s.memory (x + 16 * tdh s) 16) h.base
+-- the first profile reads a descriptor as it lies there
+read_so : (d : List ℕ) → as_read Table d ≡ d
+unfolding as_read
+read_so d = refl
 
-pub is_whole : (l : Layout) (s : State) → IsLaidOut l s → IsSending l s → tdh s ≢ tdt s → IsWhole s
-is_whole l s laid h apart =
+next_at : (l : Layout) (s : State) → s.profile ≡ Table → IsSending l s → next_descriptor s ≡ tx_at l s (tdh s)
+next_at l s profile h =
+    let place = tx.place (tx_setup s.registers) in
+    ap (λ (p : Profile). as_read p (part s.memory place 16)) profile
+    ∙ read_so (part s.memory place 16)
+    ∙ ap (λ x. part s.memory (x + 16 * tdh s) 16) h.base
+
+pub is_whole : (l : Layout) (s : State) → s.profile ≡ Table → IsLaidOut l s → IsSending l s → tdh s ≢ tdt s → IsWhole s
+is_whole l s profile laid h apart =
     let a : ℕ = tdh s in
-    let at = next_at l s h in
+    let at = next_at l s profile h in
     let p = h.packets a h.head (among_first l.tx_count a (tdt s) h.head h.tail apart) in
     let len : tx_descriptors.length_of (next_descriptor s) ≡ length_of (tx_at l s a)
     = length_is (next_descriptor s) ∙ ap length_of at in
@@ -250,13 +262,13 @@ is_whole l s laid h apart =
       };
     }
 
-pub sends : (l : Layout) (s t : State) → IsLaidOut l s → IsSending l s → SendsWhole s t
+pub sends : (l : Layout) (s t : State) → s.profile ≡ Table → IsLaidOut l s → IsSending l s → SendsWhole s t
     → Writes l s.memory t.memory tx_ring (tdh s) 12 (1 ∷ []) × Sends l s t
-sends l s t laid h r =
+sends l s t profile laid h r =
     let n : ℕ = l.tx_count in
     let a : ℕ = tdh s in
     let q = tx_setup s.registers in
-    let at = next_at l s h in
+    let at = next_at l s profile h in
     let place : tx.place q ≡ tx_descriptor l a = ap (λ x. x + 16 * a) h.base in
     let w = writes l s.memory t.memory tx_ring a 12 (1 ∷ []) laid.good h.head (omega arith)
     (r.memory ∙ ap (λ x. put s.memory (x + 12) (1 ∷ [])) place) in

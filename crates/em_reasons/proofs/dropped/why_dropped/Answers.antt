@@ -1,5 +1,4 @@
 use Rattle.std.proofs.Common.{◌+◌, ◌∙◌, length, ap, sym, refl}
-use Rattle.em_filter.specs.Filters.{longest}
 use Rattle.em_rx.specs.Frame.{len_of}
 use Rattle.em_step.specs.Arrival.{kept_frame}
 use Rattle.em_step.specs.declared.event.Reason.TheVariants.{Rejected, Undersize, Oversize, Missed}
@@ -21,8 +20,8 @@ returns-in-Undersize c =
 pub returns-in-Oversize : goal.returns-in-Oversize
 returns-in-Oversize c =
     let f = c.args.frame.now in
-    drop_said c.args.machine.now.present f c.args.reason Oversize (dropped.Oversize (length f + 4) c.longest.result)
-    c.in-Oversize.is (ap (dropped.Oversize (length f + 4)) (sym (c.longest.ensures ∙ ap longest c.registers.ensures)))
+    drop_said c.args.machine.now.present f c.args.reason Oversize c.too_long.result c.in-Oversize.is
+    (sym c.too_long.ensures)
 
 pub returns-in-Missed : goal.returns-in-Missed
 returns-in-Missed c =

@@ -9,8 +9,8 @@ pub returns-in_err-make_room-clause-err : goal.returns-in_err-make_room-clause-e
 returns-in_err-make_room-clause-err c =
     let r = c.requires in
     let start = shows (cells c.args.gather.now c.args.wire.now c.args.memory.now) in
-    let refuses : Refuses c.args.setup.now c.args.memory.now.base start c.in_err-make_room.field-0.0
-    = Refuses-memory c.args.setup.now c.args.memory.now.base _ c.args.descriptor.now r.turn r.held r.octets r.allowed
+    let refuses : Refuses c.args.control.now c.args.memory.now.base start c.in_err-make_room.field-0.0
+    = Refuses-memory c.args.control.now c.args.memory.now.base _ c.args.descriptor.now r.turn r.held r.octets r.allowed
     c.in_err-make_room.ensures.refused in
     search (rules, refuses)
 
@@ -23,5 +23,5 @@ returns-clause-ok c =
     = shows-same (with_room made.new.octets.items) c.args.gather.now made.new.memory c.args.memory.now
     (made.ensures.gathered ∙ ap (λ (g : Gathered). g.octets) c.gather.view_is)
     ((λ i. frames_from 0 (made.ensures.ends i) (made.ensures.octets i)) ∙ c.wire.view_is) made.ensures.memory.octets in
-    transmit-handle c.args.setup.now c.args.memory.now.base _ c.args.descriptor.now r.turn r.held r.octets r.allowed
-    (c.handle.ensures.state ∙ ap (handle c.args.setup.now c.args.descriptor.now) room)
+    transmit-handle c.args.control.now c.args.memory.now.base _ c.args.descriptor.now r.turn r.held r.octets r.allowed
+    (c.handle.ensures.state ∙ ap (handle c.args.control.now.setup c.args.descriptor.now) room)
