@@ -827,7 +827,11 @@ static void tells_who_did_it(void) {
   REFUSED(em_last_change(&machine, &watch, &change), EM_NO_CHANGE);
   watch.kind = EM_WATCH_SENT;
   REFUSED(em_last_change(&machine, &watch, &change), EM_NO_CHANGE);
-  watch.kind = 7;
+  watch.kind = EM_WATCH_PHY; /* RDT is no word of it; and of a PHY that nothing reaches none changes */
+  REFUSED(em_last_change(&machine, &watch, &change), EM_NO_REGISTER);
+  watch.offset = 17;
+  REFUSED(em_last_change(&machine, &watch, &change), EM_NO_CHANGE);
+  watch.kind = 8;
   REFUSED(em_last_change(&machine, &watch, &change), EM_NO_WATCH);
   watch.kind = EM_WATCH_REGISTER, watch.offset = 4;
   REFUSED(em_last_change(&machine, &watch, &change), EM_NO_REGISTER);
@@ -844,6 +848,38 @@ static void tells_who_did_it(void) {
   watch.address = UINT64_MAX;
   REFUSED(em_last_change(&machine, &watch, &change), EM_RANGE);
   CHECK(change.back == 0x0707070707070707 && change.before[0] == 7);
+  em_free(&machine);
+}
+
+/* which event changed a word of the PHY, as a read of it by MDIC gives it */
+static void tells_who_changed_the_phy(void) {
+  enum { MDIC = 0x20 };
+  em_machine machine = EM_NO_MACHINE;
+  em_watch watch = {EM_WATCH_PHY, 9, 0, 0};
+  em_change change;
+  OK(em_make_as(&machine, EM_PROFILE_ADAPTER, 0, MEMORY, BUDGET, MAC));
+  REFUSED(em_last_change(&machine, &watch, &change), EM_NO_CHANGE);
+  OK(em_write(&machine, MDIC, 0x04291234)); /* 1234 in word 9, which was 0E00 at power on */
+  OK(em_set_link(&machine, true));
+  OK(em_write(&machine, MDIC, 0x08290000)); /* a read, which changes no word */
+  OK(em_last_change(&machine, &watch, &change));
+  CHECK(change.back == 3 && change.value == 0x0E00);
+  watch.offset = 17; /* with a link it has bit 10 too */
+  OK(em_last_change(&machine, &watch, &change));
+  CHECK(change.back == 2 && change.value == 0xA800);
+  watch.offset = 1;
+  OK(em_last_change(&machine, &watch, &change));
+  CHECK(change.back == 2 && change.value == 0x7949);
+  OK(em_set_link(&machine, false));
+  OK(em_last_change(&machine, &watch, &change));
+  CHECK(change.back == 1 && change.value == 0x796D);
+  watch.offset = 31;
+  REFUSED(em_last_change(&machine, &watch, &change), EM_NO_CHANGE);
+  watch.offset = 32;
+  REFUSED(em_last_change(&machine, &watch, &change), EM_NO_REGISTER);
+  watch.offset = UINT32_MAX;
+  REFUSED(em_last_change(&machine, &watch, &change), EM_NO_REGISTER);
+  CHECK(change.back == 1 && change.value == 0x796D);
   em_free(&machine);
 }
 
@@ -1031,6 +1067,7 @@ int main(void) {
   goes_back();
   runs_the_engines();
   tells_who_did_it();
+  tells_who_changed_the_phy();
   names_registers_and_refusals();
   tells_texts();
   has_its_layouts();

@@ -877,6 +877,20 @@ class Docs(unittest.TestCase):
 
 
 class Back(unittest.TestCase):
+    def test_who_changed_the_phy(self):
+        m = Machine(profile="adapter")
+        self.assertIsNone(m.last_change("PHY 9"))
+        m.MDIC = 0x04291234  # 1234 in word 9, which was 0E00 at power on
+        m.link = True
+        m.MDIC = 0x08290000  # a read, which changes no word
+        self.assertEqual(m.last_change("PHY 9")[:2], (3, 0x0E00))
+        self.assertEqual(m.last_change("phy 17")[:2], (2, 0xA800))
+        self.assertEqual(m.last_change("PHY 1")[:2], (2, 0x7949))
+        m.back(2)
+        self.assertEqual((m.last_change("PHY 9")[:2], m.last_change("PHY 17")), ((1, 0x0E00), None))
+        self.assertRaises(bunjelav.NoRegister, m.last_change, "PHY 32")
+        self.assertRaises(bunjelav.NoName, m.last_change, "PHY")
+
     def test_back_and_who(self):
         m = Machine()
         self.assertEqual((m.back(), m.reach), (0, 0))
@@ -894,6 +908,7 @@ class Back(unittest.TestCase):
         self.assertRaises(bunjelav.Length, m.last_change, slice(4, 4))
         m.memory[65533] = 9
         self.assertEqual(m.last_change(slice(-4, -1))[:2], (1, b"\0\0\0"))
+        self.assertIsNone(m.last_change("PHY 17"))
         m.back()
         self.assertEqual([e.kind for e in m.events()], ["link up", "poke", "write"])
         self.assertEqual((m.back(2), m.link, m.RDT, m.back(9), m.RDT), (2, False, 5, 1, 0))

@@ -20,6 +20,8 @@ pub(crate) const WATCH_FRAMES: u32 = 5;
 
 pub(crate) const WATCH_SENT: u32 = 6;
 
+pub(crate) const WATCH_PHY: u32 = 7;
+
 pub(crate) const RING_RX: u32 = 1;
 
 pub(crate) const RING_TX: u32 = 2;
@@ -215,7 +217,7 @@ pub enum Rule {
     FrameBroadcast,
     /// A frame was dropped: it has fewer than 64 octets with the FCS.
     FrameUndersize,
-    /// A frame was dropped: it has more octets with the FCS than RCTL.LPE allows.
+    /// A frame was dropped: it has more octets with the FCS than RCTL.LPE allows, or in the second profile LPE and SBP.
     FrameOversize,
     /// A frame was dropped: its VLAN is not in VFTA.
     FrameVlan,
@@ -237,7 +239,8 @@ pub enum Rule {
     TxDescriptor,
     /// A transmit step was refused: the descriptor at TDH is extended (DEXT).
     TxExtended,
-    /// A transmit step was refused: the buffers of the frame hold more than 16,380 octets together.
+    /// A transmit step was refused: the buffers of the frame hold more than 16,380 octets together, or in the second
+    /// profile one of them more than 16,288.
     TxTooLong,
     /// A transmit step was refused: the buffer of the descriptor at TDH leaves guest memory.
     TxBuffer,
@@ -249,12 +252,14 @@ pub enum Rule {
     FrameCfi,
     /// A frame was dropped: it is a pause frame, and RCTL.DPF is set.
     FramePause,
+    /// A transmit step was idle: the link is down, and RCTL.LBM is 0.
+    TxLinkDown,
     /// Another number, which this binding does not know.
     Other(u32),
 }
 
 /// Each rule with its number.
-pub(crate) const RULES: [(Rule, u32); 35] = [
+pub(crate) const RULES: [(Rule, u32); 36] = [
     (Rule::NoRule, 0),
     (Rule::RxDisabled, 1),
     (Rule::RxNoRing, 2),
@@ -290,6 +295,7 @@ pub(crate) const RULES: [(Rule, u32); 35] = [
     (Rule::FrameControl, 32),
     (Rule::FrameCfi, 33),
     (Rule::FramePause, 34),
+    (Rule::TxLinkDown, 35),
 ];
 
 /// By which rule an access of a register has a warning.
