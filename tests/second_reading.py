@@ -296,7 +296,7 @@ def arrive(s: State, frame: bytes) -> tuple[str, int]:
     if counted < 64:
         s.count(RUC)
         return "dropped undersize", 0
-    if counted > (16384 if rctl & 0x20 else 1522):
+    if counted > (16384 if rctl & 0x20 or s.is_second and rctl & 4 else 1522):
         s.count(ROC)
         return "dropped oversize", 0
     if not passes_vlan(s, frame) or not passes_besides(s, frame):
@@ -344,10 +344,12 @@ def handled(s: State, kind: str) -> dict:
     reads there."""
     _, _, _, at = work_of(s, *{"rx": (RECEIVE, RCTL), "tx": (TRANSMIT, TCTL)}[kind])
     descriptor = s.octets(at, 16)
-    count = int.from_bytes(descriptor[8:10], "little")
+    buffer, count = int.from_bytes(descriptor[:8], "little"), int.from_bytes(descriptor[8:10], "little")
     if kind == "rx":
         count = min(len(s.fifo[0][0]) - s.taken, buffer_size(s))
-    return {"at": at, "buffer": int.from_bytes(descriptor[:8], "little") if count else 0, "octets": count}
+    elif s.is_second and buffer == 0:
+        count = 0
+    return {"at": at, "buffer": buffer if count else 0, "octets": count}
 
 
 def receive(s: State) -> tuple[str, int]:
@@ -377,19 +379,30 @@ def receive(s: State) -> tuple[str, int]:
     return f"wrote {head}", 40 + len(piece)
 
 
+def is_halted(s: State) -> bool:
+    """In the second profile nothing is sent while the link is down, unless LBM gives back what is sent."""
+    return s.is_second and not s.link and not s.at(RCTL) & 0xC0
+
+
 def transmit(s: State) -> tuple[str, int]:
     """The answer, and its cost."""
     there = work_of(s, TRANSMIT, TCTL)
     if there is None:
+        return "idle", 32
+    if is_halted(s):
         return "idle", 32
     n, head, tail, at = there
     if at + 16 > s.size():
         raise Refused("DmaRange")
     descriptor = s.octets(at, 16)
     of, length = int.from_bytes(descriptor[:8], "little"), int.from_bytes(descriptor[8:10], "little")
+    if s.is_second and of == 0:
+        length = 0
     command, special = descriptor[11], descriptor[14:16][::-1]
     if command & 0x20:
         raise Refused("Extended")
+    if s.is_second and length > 16288:
+        raise Refused("TooLong")
     if len(s.gathered) + length > 16380:
         raise Refused("TooLong")
     if length > 0 and of + length > s.size():

@@ -208,4 +208,29 @@ FILTERED = [
     ("PMCF takes every frame", " >> 23 & 1) and is_control(frame) and not is_pause(frame)\n", " >> 23 & 1)\n"),
     ("a frame that is too short is taken by its source", "    if counted < 64:\n", "    if counted < 64 and accepts(s, frame):\n"),
 ]
-TURNED = [*STORED, *STARTED, *FILTERED, *LOST_ACCESSES, *CHECK_SEQUENCE, *COSTS, *PINS, *PHY]
+SBP = "rctl & 0x20 or s.is_second and rctl & 4 else"
+HALTED = "return s.is_second and not s.link and not s.at(RCTL) & 0xC0"
+BAD_FRAMES = [
+    ("SBP does nothing", SBP, "rctl & 0x20 else"),
+    ("SBP is bit 3", SBP, SBP.replace("& 4", "& 8")),
+    ("SBP is bit 1", SBP, SBP.replace("& 4", "& 2")),
+    ("SBP is bit 0", SBP, SBP.replace("& 4", "& 1")),
+    ("SBP takes the place of LPE", SBP, "s.is_second and rctl & 4 else"),
+    ("SBP lets any length pass", f"16384 if {SBP}", "99999 if s.is_second and rctl & 4 else 16384 if rctl & 0x20 else"),
+    ("SBP lets short frames pass", "    if counted < 64:\n", "    if counted < 64 and not rctl & 4:\n"),
+]
+SENT = [
+    ("the link halts nothing", HALTED, "return False"),
+    ("the link halts what loops", HALTED, "return s.is_second and not s.link"),
+    ("sending stops while the link is up", HALTED, HALTED.replace("not s.link", "s.link")),
+    *((f"LBM is {bits:X}", HALTED, HALTED.replace("0xC0", f"0x{bits:X}")) for bits in (0x40, 0x80, 0xE0, 0x1C0)),
+    ("a null descriptor is read", "    if s.is_second and of == 0:\n        length = 0\n", ""),
+    ("32 bits of an address are 0", "if s.is_second and of == 0:", "if s.is_second and of % 2 ** 32 == 0:"),
+    ("63 bits of an address are 0", "if s.is_second and of == 0:", "if s.is_second and of % 2 ** 63 == 0:"),
+    ("the address 1 is null", "if s.is_second and of == 0:", "if s.is_second and of < 2:"),
+    ("one descriptor has any length", "    if s.is_second and length > 16288:", "    if False:"),
+    ("one descriptor has 16,289 octets", "length > 16288", "length > 16289"),
+    ("one descriptor has 16,287 octets", "length > 16288", "length > 16287"),
+    ("16,288 octets are those of a frame", "s.is_second and length > 16288", "s.is_second and len(s.gathered) + length > 16288"),
+]
+TURNED = [*STORED, *STARTED, *FILTERED, *BAD_FRAMES, *SENT, *LOST_ACCESSES, *CHECK_SEQUENCE, *COSTS, *PINS, *PHY]
