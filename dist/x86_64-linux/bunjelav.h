@@ -571,7 +571,7 @@ EM_CHECKED em_code em_event(const em_machine *machine, size_t k, em_note *event)
 /* What is watched. */
 typedef struct em_watch {
   uint32_t kind;    /* an em_watched */
-  uint32_t offset;  /* of a register */
+  uint32_t offset;  /* of a register; of a word of the PHY, its number: 0 to 31 */
   uint64_t address; /* of octets, where they begin */
   size_t octets;    /* and how many: 1 to 16 */
 } em_watch;
@@ -582,7 +582,8 @@ typedef enum em_watched {
   EM_WATCH_LINE = 3,     /* the interrupt line */
   EM_WATCH_LINK = 4,     /* the link */
   EM_WATCH_FRAMES = 5,   /* how many frames lie in the FIFO */
-  EM_WATCH_SENT = 6 /* how many frames were sent */
+  EM_WATCH_SENT = 6,     /* how many frames were sent */
+  EM_WATCH_PHY = 7 /* a word of the PHY, as a read of it by MDIC gives it; nothing in the first profile */
 } em_watched;
 
 /* A change of what is watched. */
@@ -638,7 +639,8 @@ typedef enum em_rule {
   EM_WHY_FRAME_CONTROL = 32, /* a frame was dropped: it is a MAC control frame, no filter has its destination, and
                                 RCTL.PMCF is clear */
   EM_WHY_FRAME_CFI = 33, /* a frame was dropped: the CFI of its tag is not RCTL.CFI */
-  EM_WHY_FRAME_PAUSE = 34 /* a frame was dropped: it is a pause frame, and RCTL.DPF is set */
+  EM_WHY_FRAME_PAUSE = 34, /* a frame was dropped: it is a pause frame, and RCTL.DPF is set */
+  EM_WHY_TX_LINK_DOWN = 35 /* a transmit step was idle: the link is down, and RCTL.LBM is 0 */
 } em_rule;
 
 /* Why an event did nothing. A number that the rule has not is 0. */
