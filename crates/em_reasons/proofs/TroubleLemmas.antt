@@ -14,7 +14,7 @@ use Rattle.em_rx.specs.Receive as rx
 use Rattle.em_tx.specs.Control.{is_over, is_still}
 use Rattle.em_tx.specs.Descriptor.{address, dext, length_of}
 use Rattle.em_tx.specs.Ring as tx
-use Rattle.em_step.specs.Engines.{is_halted, tx_control}
+use Rattle.em_step.specs.Engines.{is_halted, rx_control, tx_control}
 use Rattle.em_step.specs.Event.{receives, transmits}
 use Rattle.em_step.specs.State.{State}
 use Rattle.em_step.specs.Step.{step}
@@ -109,7 +109,7 @@ over_nothing true lowest = refl
 over_nothing false None = refl
 over_nothing false (Some other) = refl
 
-rx_by : (a buffer out over : Bool) (lowest : Option ℕ) → (out ≡ false → buffer ≡ false)
+rx_by : (a buffer out over : Bool) (lowest : Option ℕ) → (a ≡ false → out ≡ false → buffer ≡ false)
     → ((if a then Some trouble.Outside else buffer_told out over lowest) ≡ Some trouble.BufferOutside
     → out ≡ true → buffer ≡ true)
     → rx_said a buffer ≡ foretold (if a then Some trouble.Outside else buffer_told out over lowest)
@@ -117,7 +117,7 @@ rx_by true buffer out over lowest less full = refl
 rx_by false buffer true over lowest less full =
     ap (λ (b : Bool). if b then Some refusal.DmaRange else None) (full refl refl)
 rx_by false buffer false over lowest less full =
-    ap (λ (b : Bool). if b then Some refusal.DmaRange else None) (less refl) ∙ sym (over_nothing over lowest)
+    ap (λ (b : Bool). if b then Some refusal.DmaRange else None) (less refl refl) ∙ sym (over_nothing over lowest)
 
 part_within : (base : ℕ) (m : List ℕ) (a room left : ℕ) → leaves base m a room ≡ false
     → leaves base m a (min room left) ≡ false
@@ -130,37 +130,58 @@ part_whole : (base : ℕ) (m : List ℕ) (a room left : ℕ) → room ≤ left �
 part_whole base m a room left fills h =
     let whole : min room left ≡ room = omega (arith, fills) in ap (λ (n : ℕ). leaves base m a n) whole ∙ h
 
+-- where the octets go, by whether any do
+abbrev goes_past : ℕ → List ℕ → ℕ → ℕ → ℕ → ℕ → Bool → Bool
+goes_past base m at a room left null =
+    leaves base m (if null then at else a) (if null then 0 else min room left)
+
+less_if : (base : ℕ) (m : List ℕ) (at a room left : ℕ) (null : Bool) → leaves base m at 16 ≡ false
+    → leaves base m a room ≡ false → goes_past base m at a room left null ≡ false
+less_if base m at a room left true whole h =
+    let held = lies_by_test base m at 16 whole in
+    stays_in base m at 0 (record { from = held.from; to = omega (arith, held.to) })
+less_if base m at a room left false whole h = part_within base m a room left h
+
+full_if : (base : ℕ) (m : List ℕ) (at a room left : ℕ) (null : Bool) → null ≡ false → room ≤ left
+    → leaves base m a room ≡ true → goes_past base m at a room left null ≡ true
+full_if base m at a room left true takes fills h = cc
+full_if base m at a room left false takes fills h = part_whole base m a room left fills h
+
 -- what is told of the descriptor at RDH, in the cases of the engine
 abbrev rx_told : State → Option Trouble
 rx_told s =
-    let q = rx_setup s.registers in
+    let c = rx_control s in
+    let q = c.setup in
     let r = rx_ring q in
-    let buffer = buffer_of r.side (fields_in r.side (part s.memory (rx.descriptor_at q) 16)) in
-    if leaves s.base s.memory (rx.descriptor_at q) 16 then Some trouble.Outside
-    else buffer_told (leaves s.base s.memory (rx.buffer_at q s.memory) q.buffer) (overlaps buffer (extent_of r.setup))
+    let buffer = buffer_of r.side (fields_in r.side (part s.memory (rx.descriptor_at c) 16)) in
+    if leaves s.base s.memory (rx.descriptor_at c) 16 then Some trouble.Outside
+    else buffer_told (leaves s.base s.memory (rx.buffer_at c s.memory) q.buffer) (overlaps buffer (extent_of r.setup))
     (lowest_over r s.base s.memory q.head buffer)
 
 rx_told_so : (s : State) → IsBusy s receives → rx_trouble s ≡ rx_told s
 rx_told_so s runs =
-    let q = rx_setup s.registers in
+    let c = rx_control s in
+    let q = c.setup in
     let r = rx_ring q in
     let on = first_false _ _ (rx_busy s runs) in
-    of_octets r s.base s.memory q.head (leaves s.base s.memory (rx.descriptor_at q) 16)
-    (part s.memory (rx.descriptor_at q) 16) (owner_by _ (head_is_adapters r.setup on))
+    of_octets r s.base s.memory q.head (leaves s.base s.memory (rx.descriptor_at c) 16)
+    (part s.memory (rx.descriptor_at c) 16) (owner_by _ (head_is_adapters r.setup on))
 
 pub receives_as_told : (s : State) → IsBusy s receives
     → (rx_trouble s ≡ Some trouble.BufferOutside → FillsBuffer s)
     → refusal_in (step s receives) ≡ foretold (rx_trouble s)
 receives_as_told s runs fills =
-    let q = rx_setup s.registers in
-    let a = rx.buffer_at q s.memory in
+    let c = rx_control s in
+    let at : ℕ = rx.descriptor_at c in
+    let room : ℕ = c.setup.buffer in
+    let a : ℕ = rx.buffer_at c s.memory in
+    let null : Bool = rx.is_null c (rx.descriptor c s.memory) in
     let told = rx_told_so s runs in
     sym (refusal_said s receives)
-    ∙ ap (option_map refusal_of) (busy (rx.is_idle q s.fifo) (rx_table q s.base s.memory s.fifo) (rx_busy s runs))
-    ∙ rx_rows_said (leaves s.base s.memory (rx.descriptor_at q) 16) (leaves s.base s.memory a (rx.count_of q s.fifo)) _ _ _
-    _ _ _
-    ∙ rx_by _ _ (leaves s.base s.memory a q.buffer) _ _ (part_within s.base s.memory a q.buffer (rest s.fifo))
-    (λ is. part_whole s.base s.memory a q.buffer (rest s.fifo) (fills (told ∙ is)))
+    ∙ ap (option_map refusal_of) (busy (rx.is_idle c s.fifo) (rx_table c s.base s.memory s.fifo) (rx_busy s runs))
+    ∙ rx_rows_said (leaves s.base s.memory at 16) (rx.is_outside c s.base s.memory s.fifo) _ _ _ _ _ _
+    ∙ rx_by _ _ (leaves s.base s.memory a room) _ _ (less_if s.base s.memory at a room (rest s.fifo) null)
+    (λ is. full_if s.base s.memory at a room (rest s.fifo) null (fills (told ∙ is)).takes (fills (told ∙ is)).full)
     ∙ ap foretold (sym told)
 
 -- ---- the transmit engine

@@ -3,6 +3,8 @@ use Rattle.std.specs.Prelude.{◌≡◌, ◌+◌, ◌≤◌, ℕ, nat_lt, true, 
 use Rattle.em_mem.specs.Memory.{part}
 use Rattle.em_regs.specs.Setup.{rx_setup, tx_setup}
 use Rattle.em_rx.specs.Fifo.{rest}
+use Rattle.em_rx.specs.Receive as rx
+use Rattle.em_step.specs.Engines.{rx_control}
 use Rattle.em_step.specs.State.{State}
 use Rattle.em_step.specs.declared.event.Answer.{Answer}
 use Rattle.em_step.specs.declared.refusal.Refusal.{Refusal}
@@ -36,9 +38,11 @@ foretold (Some trouble.TooLong) = Some refusal.TooLong
 foretold (Some trouble.BufferOutside) = Some refusal.DmaRange
 foretold _ = None
 
--- what the first frame still has fills the buffer at RDH, of which the trouble speaks; the engine goes by the octets
-abbrev pub FillsBuffer : State → Type 0
-FillsBuffer s = (rx_setup s.registers).buffer ≤ rest s.fifo
+-- the descriptor at RDH takes octets, and what the first frame still has fills its buffer, of which the trouble speaks; the
+-- engine goes by the octets
+pub record FillsBuffer (s : State) : Type 0 where
+  pub takes : rx.is_null (rx_control s) (rx.descriptor (rx_control s) s.memory) ≡ false
+  pub full : (rx_setup s.registers).buffer ≤ rest s.fifo
 
 -- the descriptor at TDH, as it lies there
 abbrev pub there : State → List ℕ

@@ -88,8 +88,8 @@ pub fn refused_events_stay_refused()
 ///   first frame still has, up to the buffer's size;
 /// - that a length is above 16,380. It speaks of the descriptor alone; the transmit engine adds what is gathered.
 ///
-/// It does not know what the second profile adds: a descriptor with the address 0 has no octets there, and one has at most
-/// 16,288.
+/// It does not know what the second profile adds: a descriptor with the address 0 has no octets there, in either ring, and a
+/// transmit descriptor has at most 16,288.
 pub fn troubles_are_refused()
     ensures receives { (s : State) → refused.IsBusy s receives →
         (rx_trouble s ≡ Some Trouble.BufferOutside → FillsBuffer s) →

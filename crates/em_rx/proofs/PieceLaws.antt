@@ -393,3 +393,14 @@ module _ (c : RxControl) (base : ℕ) (m : List ℕ) (frame : Frame) (frames : L
         if_false _ (begun j) gone test,
         end.2.done,
       )
+
+  -- until then the frame is the oldest one
+  pub still_first : (fifo : Fifo) → fifo ≡ record { frames = frame ∷ frames; taken = 0 } → (k : ℕ) → k < j →
+      (e : Engine) → after_steps k (record { control = c; base = base; memory = m; fifo = fifo }) ≡ Ok e →
+      e.fifo.frames ≡ frame ∷ frames
+  still_first fifo is k less e ok =
+      let here = going k (omega arith) in
+      let test : nat_lt k j ≡ true = grind (arith, nat_tests, less) in
+      let there : Ok (engine_at k here.0) ≡ Ok e = sym (ap (after_steps k) (start fifo is) ∙ here.1) ∙ ok in
+      let same : engine_at k here.0 ≡ e = cc in
+      ap (λ (x : Engine). x.fifo.frames) (sym same) ∙ ap (λ (f : Fifo). f.frames) (if_true _ (begun k) gone test)
