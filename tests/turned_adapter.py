@@ -236,9 +236,9 @@ SENT = [
 RECEIVED = [
     ("a null descriptor takes octets", "takes_none = s.is_second and to == 0", "takes_none = False"),
     ("32 bits of a receive address are 0", "takes_none = s.is_second and to == 0",
-     "takes_none = s.is_second and to % 2 ** 32 == 0"),
+     "to *= not s.is_second or to % 2 ** 32 != 0\n    takes_none = s.is_second and to == 0"),
     ("63 bits of a receive address are 0", "takes_none = s.is_second and to == 0",
-     "takes_none = s.is_second and to % 2 ** 63 == 0"),
+     "to *= not s.is_second or to % 2 ** 63 != 0\n    takes_none = s.is_second and to == 0"),
     ("the receive address 1 is null", "takes_none = s.is_second and to == 0", "takes_none = s.is_second and to < 2"),
     ("DD of a null descriptor stays", "s.octets(at + 12, 1)[0] | 1]", "s.octets(at + 12, 1)[0]]"),
     ("a null descriptor's status starts anew", "bytes([s.octets(at + 12, 1)[0] | 1])", "bytes([1])"),
