@@ -23,8 +23,8 @@ register_looked s reg offset value look at looked is =
     ap (λ (v : ℕ). names.register_text reg v ++ codes "\n") (sym same)
 
 -- the window of a ring
-pub window_of : (registers : Registers) (side : Side) (base : ℕ) (memory : List ℕ) (r : SidedRing) (from : ℕ)
-    → r ≡ ring_of registers side → from ≡ ring.shown_from r
-    → ring.ring_text r base memory from 64 ≡ window_text (ring_of registers side) base memory
-window_of registers side base memory r from is shown =
+pub window_of : (s : State) (side : Side) (base : ℕ) (memory : List ℕ) (r : SidedRing) (from : ℕ)
+    → r ≡ ring_of s side → from ≡ ring.shown_from r
+    → ring.ring_text r base memory from 64 ≡ window_text (ring_of s side) base memory
+window_of s side base memory r from is shown =
     ap (λ (n : ℕ). ring.ring_text r base memory n 64) shown ∙ ap (λ (q : SidedRing). window_text q base memory) is

@@ -52,6 +52,6 @@ given_over base memory r was =
 
 abbrev pub buffers_overlap : View → Reg → Option Warning
 buffers_overlap v reg.Rdt =
-    option_and_then (given_over v.present.base v.present.memory (rx_ring (rx_setup v.present.registers)))
+    option_and_then (given_over v.present.base v.present.memory (rx_ring v.present.profile (rx_setup v.present.registers)))
     (value_before v reg.Rdt)
 buffers_overlap v _ = None

@@ -49,5 +49,5 @@ in_ring base memory write r =
 -- of the receive ring, or else of the transmit ring
 abbrev pub written_while_owned : State → Extent → Option Warning
 written_while_owned s write =
-    option_or (in_ring s.base s.memory write (rx_ring (rx_setup s.registers)))
-    (in_ring s.base s.memory write (tx_ring (tx_setup s.registers)))
+    option_or (in_ring s.base s.memory write (rx_ring s.profile (rx_setup s.registers)))
+    (in_ring s.base s.memory write (tx_ring s.profile (tx_setup s.registers)))
