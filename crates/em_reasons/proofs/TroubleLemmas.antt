@@ -306,7 +306,8 @@ tx_by_null : (a e null over : Bool) (base : ℕ) (m : List ℕ) (at g n : ℕ) (
     ≡ foretold (if a then Some trouble.Outside
     else null_told null e (sent_told e (n == 0) (nat_lt 16380 n) (buffer_told (leaves base m at n) over lowest)))
 tx_by_null a e true over base m at g n lowest alone =
-    null_said a e (nat_lt 16380 (g + 0)) (leaves base m at 0) alone ∙ null_any a e _
+    null_said a e (nat_lt 16380 (g + 0)) (leaves base m at 0) alone
+    ∙ null_any a e (sent_told e (n == 0) (nat_lt 16380 n) (buffer_told (leaves base m at n) over lowest))
 tx_by_null a e false over base m at g n lowest alone =
     tx_by a e (n == 0) (nat_lt 16380 n) (leaves base m at n) over _ (nat_lt 0 n) lowest (empty_none n) (empty_any n)
     (empty_short n) alone (longer g n)
