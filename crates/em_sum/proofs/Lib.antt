@@ -1,0 +1,3 @@
+-- SumLaws: the sum word by word (`sum_of`); OnesLaws on SumLaws: what a receiver finds (`a_receiver_finds_all_ones`)
+pub mod SumLaws
+pub mod OnesLaws
