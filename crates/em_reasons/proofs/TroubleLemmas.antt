@@ -363,7 +363,7 @@ transmits_as_told s runs alone has_few =
     ∙ ap (λ (b : Bool). tx_said a (dext x) b (nat_lt 0 (length_of x) && leaves s.base s.memory (address x) (length_of x))) few
     ∙ (
     λ i. tx_said a (dext_read s.profile d i) (nat_lt 16380 (g + long i))
-        (nat_lt 0 (long i) && leaves s.base s.memory (address_read s.profile d i) (long i))
+    (nat_lt 0 (long i) && leaves s.base s.memory (address_read s.profile d i) (long i))
     )
     ∙ tx_by_null a (dext d) null _ s.base s.memory (address d) g (length_of d) _
     (subst (λ (k : ℕ). nat_lt 16380 (g + k) ≡ true → nat_lt 16380 k ≡ true) long alone)

@@ -135,10 +135,7 @@ fn last_fields(told: Told) -> (u8, u16)
     let filter = if told.inexact { RxDescriptor::PIF } else { 0 };
     match told.tag {
         None => (WRITTEN | RxDescriptor::EOP | filter, 0),
-        Some(tag) => (
-            WRITTEN | RxDescriptor::EOP | RxDescriptor::VP | filter,
-            tag,
-        ),
+        Some(tag) => (WRITTEN | RxDescriptor::EOP | RxDescriptor::VP | filter, tag),
     }
 }
 

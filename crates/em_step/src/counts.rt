@@ -71,13 +71,7 @@ fn count_total(
 
 /// Counts a frame among all. It stands by itself, so that the first profile's way stays short.
 #[inline(never)]
-fn count_all(
-    latches: &mut Latches,
-    frames: Counter,
-    octets: Counter,
-    by: u32,
-    undo: &mut LatchUndo,
-)
+fn count_all(latches: &mut Latches, frames: Counter, octets: Counter, by: u32, undo: &mut LatchUndo)
     requires frames { octets_for_count frames 1 ≡ 1 }
     requires octets { octets_for_count octets by ≤ 4 }
     requires room { octets_of undo.old ≡ 0 }

@@ -314,8 +314,8 @@ rx_writes l s t f frames laid h r =
           (
           r.memory
           ∙ λ p. put (put s.memory ((buffer ∙ zero) p) f) (at p + 8)
-              (length f % 256 ∷ length f / 256 ∷ 0 ∷ 0
-              ∷ (if none_inexact s h.profile p then 0x87 else 0x07) ∷ 0 ∷ 0 ∷ 0 ∷ [])
+          (length f % 256 ∷ length f / 256 ∷ 0 ∷ 0
+          ∷ (if none_inexact s h.profile p then 0x87 else 0x07) ∷ 0 ∷ 0 ∷ 0 ∷ [])
           );
     }
 
