@@ -1,5 +1,5 @@
 -- What goes into whether an exact filter accepts a frame: BAM, and the entries of RAL and RAH.
-use Rattle.std.proofs.Common.{◌≡◌, ℕ, ◌+◌, ◌*◌, ◌/◌, ◌%◌, ◌^◌, ◌==◌, ◌&&◌, ◌||◌, not, Bool, map, filter}
+use Rattle.std.proofs.Common.{◌≡◌, ℕ, ◌+◌, ◌*◌, ◌/◌, ◌%◌, ◌^◌, ◌==◌, ◌&&◌, ◌||◌, not, map, filter}
 use Rattle.std.specs.List.{list_any, range_with_len}
 use Rattle.em_address.specs.Kind.{is_broadcast, kind_of}
 use Rattle.em_filter.specs.Address.{has_source, is_inexact, is_in_table}

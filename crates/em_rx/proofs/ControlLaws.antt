@@ -1,5 +1,5 @@
 -- What a step writes, by whether its descriptor takes octets.
-use Rattle.std.proofs.Common.{◌≡◌, ℕ, ◌+◌, ◌-◌, ◌≤◌, Bool, true, false, min, if◌then◌else◌, List, length, take, drop}
+use Rattle.std.proofs.Common.{◌≡◌, ℕ, ◌+◌, ◌≤◌, Bool, true, false, min, if◌then◌else◌, List, length, take, drop}
 use Rattle.std.proofs.Common.{refl, sym, ap, ◌∙◌, arith, length-drop}
 use Rattle.std.proofs.lemmas.List.{drop-take, drop-drop, length-set}
 use Rattle.std.specs.Prelude.{Option, slice_index, bit_or}

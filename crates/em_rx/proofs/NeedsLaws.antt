@@ -8,10 +8,9 @@ use Rattle.em_mem.specs.Memory as memory
 use Rattle.em_mem.specs.Memory.{LiesIn, leaves, part, put}
 use Rattle.em_mem.specs.OldOctets.{OldOctets}
 use Rattle.em_mem.proofs.PutLaws.{length-part, length-put}
-use Rattle.std.proofs.lemmas.Bool.Decides.{nat_tests}
 use Rattle.std.proofs.lemmas.List.{length-take-le}
 use Rattle.em_mem.specs.Needs.{AgreeOn, no_octets, nothing, reads_only, with_octets_of}
-use Rattle.em_mem.proofs.NeedsLaws.{agree_first, lies_by_test, stays_in, two_taken_out}
+use Rattle.em_mem.proofs.NeedsLaws.{agree_first, lies_by_test, two_taken_out}
 use Rattle.em_rx.specs.Fifo.{Cells, Fifo, next}
 use Rattle.em_rx.specs.Needs.{descriptor, end, needs, piece, taken_into, written_at}
 use Rattle.em_rx.specs.Records.{saved_of, step_patch}

@@ -1,13 +1,12 @@
 -- The next piece, by the tests of a step.
-use Rattle.std.proofs.Common.{◌≡◌, ℕ, ◌+◌, Bool, true, false, if◌then◌else◌, List, Result, Ok, Err, sym, ap, subst}
-use Rattle.std.proofs.Common.{◌∙◌, arith}
+use Rattle.std.proofs.Common.{◌≡◌, ℕ, ◌+◌, Bool, true, false, if◌then◌else◌, List, Ok, Err, subst}
+use Rattle.std.proofs.Common.{arith}
 use Rattle.em_mem.specs.Memory.{LiesIn, leaves}
 use Rattle.em_mem.proofs.NeedsLaws.{leaves_by, stays_in}
 use Rattle.em_rx.specs.Fifo.{Fifo}
-use Rattle.em_rx.specs.Receive.{IsNextPiece, Outcome, count_of, delivery, descriptor, descriptor_at, is_idle, is_last}
+use Rattle.em_rx.specs.Receive.{IsNextPiece, count_of, delivery, descriptor, descriptor_at, is_idle, is_last}
 use Rattle.em_rx.specs.Receive.{is_outside, place_of, receive}
 use Rattle.em_rx.specs.declared.control.RxControl.{RxControl}
-use Rattle.em_rx.specs.declared.refusal.RxRefusal.{RxRefusal}
 use Rattle.em_rx.specs.declared.refusal.RxRefusal.TheVariants.{DmaRange}
 use Rattle.em_rx.specs.declared.step.RxAnswer.TheVariants.{Idle}
 use Rattle.em_rx.specs.declared.undo.OldPiece.{OldPiece}

@@ -1,6 +1,6 @@
 -- The pieces of one frame, step after step.
 use Rattle.std.proofs.Common.{◌≡◌, ℕ, suc, zero, ◌+◌, ◌-◌, ◌*◌, ◌≤◌, ◌<◌, ◌==◌, ◌||◌, not, Bool, true, false, nat_lt}
-use Rattle.std.proofs.Common.{nat_le, if◌then◌else◌, List, ◌∷◌, ◌++◌, length, take, drop, refl, sym, ap, ap₂, subst}
+use Rattle.std.proofs.Common.{nat_le, if◌then◌else◌, List, ◌∷◌, ◌++◌, length, take, drop, refl, sym, ap, subst}
 use Rattle.std.proofs.Common.{◌∙◌, inl, inr, arith, length-drop, Result, Ok, Err}
 use Rattle.std.proofs.lemmas.List.{length-take-le, drop-append-le, take-append-le, drop-take, take-take, drop-drop}
 use Rattle.std.proofs.lemmas.Bool.{cases_eq, cases_lt}

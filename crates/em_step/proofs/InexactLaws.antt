@@ -1,5 +1,5 @@
 -- How the oldest frame comes past the filters.
-use Rattle.std.proofs.Common.{◌≡◌, ◌<◌, ℕ, Bool, true, false, List, [], ◌∷◌, length, refl, arith}
+use Rattle.std.proofs.Common.{◌≡◌, ◌<◌, ℕ, false, List, [], ◌∷◌, length, refl, arith}
 use Rattle.em_address.specs.Kind.{destination, source}
 use Rattle.em_filter.specs.Address.{is_inexact}
 use Rattle.em_filter.proofs.InexactLaws.{AgreeInExact, inexact_same}

@@ -1,11 +1,10 @@
 -- No event goes by registers and bits that have no rule.
 use Rattle.std.proofs.Common.{◌≡◌, ◌≢◌, ◌∙◌, arith, ◌==◌, ◌&&◌, ◌||◌, ℕ, ◌+◌, ◌*◌, ◌/◌, ◌%◌, ◌^◌, Bool, true, false, not}
-use Rattle.std.proofs.Common.{List, [], ◌∷◌, length, map, filter, refl, sym, ap, subst, Option, Some, None, Ok, Err}
+use Rattle.std.proofs.Common.{List, [], ◌∷◌, length, refl, sym, ap, subst, Option, Some, None, Ok, Err}
 use Rattle.std.proofs.Common.{Result, cond, if◌then◌else◌, slice_index, nat_le, nat_lt}
 use Rattle.std.specs.Prelude.{bit_and}
 use Rattle.std.specs.FinMap.{insert}
 use Rattle.std.specs.Ordering.{nat_cmp, eq_by_cmp}
-use Rattle.std.specs.List.{list_any, range_with_len}
 use Rattle.em_mem.specs.Memory as memory
 use Rattle.em_regs.specs.declared.reg.Reg.{Reg}
 use Rattle.em_regs.specs.declared.profile.Profile.{Profile}
@@ -23,7 +22,7 @@ use Rattle.em_regs.specs.declared.table.Kind.TheVariants.{EepromPins, PhyCommand
 use Rattle.em_regs.proofs.Entries.{at-insert, at-insert_other}
 use Rattle.em_latch.specs.Latches as latches
 use Rattle.em_eeprom.specs.Eeprom.{mac_of, word_at}
-use Rattle.em_filter.specs.Address.{accepts, has_source, is_in_table}
+use Rattle.em_filter.specs.Address.{accepts}
 use Rattle.em_filter.specs.Bits.{bam, is_second, rctl}
 use Rattle.em_filter.specs.Control.{is_other_control, is_pause, passes_dpf, passes_pmcf}
 use Rattle.em_regs.specs.Setup.{bit}

@@ -1,5 +1,5 @@
 -- The end of a descriptor is that of its 16 octets.
-use Rattle.std.proofs.Common.{◌∙◌, ap, List, ℕ}
+use Rattle.std.proofs.Common.{◌∙◌, ap, ℕ}
 use Rattle.em_mem.specs.Memory.{part}
 use Rattle.em_rx.specs.Descriptor.{marked_done}
 use Rattle.em_rx.proofs.ControlLaws.{end_is}
