@@ -3,7 +3,6 @@ use Rattle.std.proofs.Common.{◌≡◌, ◌∙◌, ℕ, List, ◌++◌, Option,
 use Rattle.std.specs.Prelude.{codes, unwrap_or}
 use Rattle.std.specs.Option.{option_map}
 use Rattle.em_regs.specs.declared.reg.Reg.{Reg}
-use Rattle.em_regs.specs.Storage.{Registers}
 use Rattle.em_regs.specs.Table.{offset_of, reg_of}
 use Rattle.em_step.specs.Access.{gives}
 use Rattle.em_step.specs.State.{State}

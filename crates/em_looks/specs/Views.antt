@@ -1,10 +1,9 @@
 -- A register, a ring and guest memory, as text.
-use Rattle.std.specs.Prelude.{ℕ, ◌+◌, nat_lt, if◌then◌else◌, min, List, ◌++◌, codes, length, unwrap_or}
+use Rattle.std.specs.Prelude.{ℕ, if◌then◌else◌, min, List, ◌++◌, codes, unwrap_or}
 use Rattle.std.specs.Option.{option_map}
 use Rattle.em_mem.specs.Memory.{leaves, part}
 use Rattle.em_regs.specs.declared.reg.Reg.{Reg}
 use Rattle.em_regs.specs.Setup.{rx_setup, tx_setup}
-use Rattle.em_regs.specs.Storage.{Registers}
 use Rattle.em_regs.specs.Table.{offset_of, reg_of}
 use Rattle.em_step.specs.Access.{gives}
 use Rattle.em_step.specs.State.{State}

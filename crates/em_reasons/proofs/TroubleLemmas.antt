@@ -8,7 +8,7 @@ use Rattle.em_mem.proofs.NeedsLaws.{lies_by_test, stays_in}
 use Rattle.em_regs.specs.declared.profile.Profile.{Profile}
 use Rattle.em_regs.specs.declared.ring.Ring.{Ring}
 use Rattle.em_regs.specs.Ring as ring
-use Rattle.em_regs.specs.Setup.{rx_setup, tx_setup}
+use Rattle.em_regs.specs.Setup.{tx_setup}
 use Rattle.em_rx.specs.Fifo.{rest}
 use Rattle.em_rx.specs.Receive as rx
 use Rattle.em_rx.specs.Control.{is_null_at}
@@ -35,7 +35,7 @@ use Rattle.em_reasons.specs.declared.refused.Refused.TheVariants.{Extended}
 use Rattle.em_reasons.specs.Foretold.{FillsBuffer, HasFew, IsLongAlone, foretold, read, refusal_in, rx_trouble}
 use Rattle.em_reasons.specs.Foretold.{tx_trouble}
 use Rattle.em_reasons.proofs.ReadLemmas.{address_read, dext_read, length_by_null}
-use Rattle.em_reasons.specs.Refused.{IsBusy, bounds_of, refusal_of, rx_table, too_long, tx_octets, tx_table}
+use Rattle.em_reasons.specs.Refused.{IsBusy, bounds_of, refusal_of, rx_table, too_long, tx_table}
 use Rattle.em_reasons.proofs.RefusalLemmas.{long_refusal, refusal_said, said}
 use Rattle.em_reasons.proofs.RefusedStay.{busy, rx_busy, tx_busy}
 

@@ -1,7 +1,6 @@
 -- The rules about a ring's head.
 use Rattle.std.specs.Prelude.{ℕ, ◌+◌, ◌-◌, ◌%◌, ◌==◌, ◌&&◌, nat_le, nat_lt, not, if◌then◌else◌, Bool}
 use Rattle.std.specs.Prelude.{Option, Some, None, option_and_then}
-use Rattle.std.specs.Option.{option_map}
 use Rattle.em_regs.specs.declared.reg.Reg.{Reg}
 use Rattle.em_regs.specs.declared.ring.Ring.{Ring}
 use Rattle.em_journal.specs.View.{View}

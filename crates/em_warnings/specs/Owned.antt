@@ -1,7 +1,7 @@
 -- The rule about octets that a driver writes while they are the adapter's (manual, chapters on the descriptor queues: what lies
 -- between head and tail is the adapter's).
 use Rattle.std.specs.Prelude.{ℕ, ◌-◌, ◌%◌, ◌^◌, ◌&&◌, ◌||◌, if◌then◌else◌, Bool, false, List, find}
-use Rattle.std.specs.Prelude.{Option, Some, None}
+use Rattle.std.specs.Prelude.{Option, None}
 use Rattle.std.specs.Option.{option_map, option_map_or, option_or}
 use Rattle.std.specs.List.{range_with_len}
 use Rattle.em_regs.specs.Ring.{descriptor_at}
