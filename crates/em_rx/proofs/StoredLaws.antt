@@ -1,5 +1,5 @@
 -- What is known of the frames that sound cells show.
-use Rattle.std.proofs.Common.{◌≡◌, ℕ, ◌≤◌, List, [], ◌∷◌, length, take, drop, arith, length-drop}
+use Rattle.std.proofs.Common.{◌≡◌, ℕ, ◌+◌, ◌≤◌, ◌<◌, List, [], ◌∷◌, length, take, drop, subst, sym, arith, length-drop}
 use Rattle.std.proofs.lemmas.List.{length-take-le}
 use Rattle.std.proofs.lemmas.List.Sums.{sum_by-cons}
 use Rattle.std.proofs.lemmas.List.Elements.{All-nil, All-cons, All-head, All-tail}
@@ -7,7 +7,7 @@ use Rattle.std.specs.Prelude.{All}
 use Rattle.em_mem.specs.Ring.{turn}
 use Rattle.em_mem.proofs.RingLaws.{length-turn}
 use Rattle.em_rx.specs.Frame.{Frame, len_of}
-use Rattle.em_rx.specs.Fifo.{Cells, IsFifo, IsSound, IsTakenOf, IsWithin, cut, live, shows, total}
+use Rattle.em_rx.specs.Fifo.{Cells, Fifo, IsFifo, IsSound, IsTakenOf, IsWithin, cut, live, shows, total}
 use Rattle.em_rx.specs.declared.places.Entry.{Entry}
 use Rattle.em_rx.proofs.ArrivalLaws.{octets_in-shows}
 use Rattle.em_rx.proofs.CutLaws.{IsLong}
