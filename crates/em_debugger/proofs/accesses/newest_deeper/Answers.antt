@@ -1,7 +1,8 @@
-use Rattle.std.proofs.Common.{[], ◌<◌, ◌∙◌, refl, sym, subst, length, arith}
+use Rattle.std.proofs.Common.{[], ◌∷◌, ◌<◌, ◌∙◌, refl, sym, subst, length, arith}
 use Rattle.std.specs.Prelude.{max}
 use Rattle.em_tape.specs.Tape.{event_of}
-use Rattle.em_debugger.specs.Accesses.{full, over}
+use Rattle.em_debugger.specs.Accesses.{IsNewest, full, over}
+use Rattle.em_debugger.specs.declared.accesses.Newest.TheVariants as newest
 use Rattle.em_debugger.specs.Deeper.{IsSeen}
 use Rattle.em_debugger.proofs.AccessesLaws.{found_deeper, found_unseen}
 use Rattle.em_debugger.proofs.DeeperLaws.{again_on, kept_on, unseen_again, unseen_falls}
@@ -15,14 +16,15 @@ see-requires-clause-performed c =
 
 pub returns-in-Some : goal.returns-in-Some
 returns-in-Some c settings tape again =
-    c.loop-noted.invariant.goes_on settings tape again _
-    (full c.loop-noted.deep 1 c.in-Some.noted.back _ (c.in-Some.ensures.some, refl) refl)
+    c.loop-noted.invariant.goes_on settings tape again (newest.Found c.in-Some.noted)
+    (full c.loop-noted.deep 1 c.in-Some.noted.back (c.in-Some.noted ∷ []) (c.in-Some.ensures.some, refl) refl)
 
 pub returns-then-next-eq0 : goal.returns-then-next-eq0
 returns-then-next-eq0 c settings tape again =
-    c.loop-noted.invariant.goes_on settings tape again _
-    (over c.loop-noted.deep 1 0 [] refl (omega arith) c.in_default.ensures.none
-    (sym c.next_unseen-next.ensures ∙ c.if-next-eq0.true))
+    let none : IsNewest settings tape c.args.sort c.loop-noted.deep newest.Never
+    = over c.loop-noted.deep 1 0 [] refl (omega arith) c.in_default.ensures.none
+    (sym c.next_unseen-next.ensures ∙ c.if-next-eq0.true) in
+    c.loop-noted.invariant.goes_on settings tape again newest.Never none
 
 pub returns-in-Err : goal.returns-in-Err
 returns-in-Err c settings tape again =
@@ -31,7 +33,7 @@ returns-in-Err c settings tape again =
     c.in-Err.ensures.holds again in
     let unseen = unseen_again settings tape c.see.new.deep c.next_unseen-next.result c.in-Err.why there
     c.in-Err.ensures.unseen in
-    c.loop-noted.invariant.goes_on settings tape again _
+    c.loop-noted.invariant.goes_on settings tape again (newest.Unreached c.next_unseen-next.result c.in-Err.why)
     (found_unseen settings tape c.loop-noted.deep c.args.sort c.next_unseen-next.result c.in-Err.why
     c.in_default.ensures.none c.next_unseen-next.ensures (omega arith) unseen)
 

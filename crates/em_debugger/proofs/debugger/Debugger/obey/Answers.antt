@@ -78,3 +78,6 @@ returns-in-PcapOver g c =
 
 pub returns-in-Show : goal.returns-in-Show
 returns-in-Show g c = record { ok = rw c.in-Show.is (shown (Did g.D.Disk.passes c.args.disk.now c.args.disk.now) c.args.self.now c.in-Show.shown _ _ c.show.result refl c.show.ensures.ok) }
+
+pub returns-in-Mark : goal.returns-in-Mark
+returns-in-Mark g c = ?
