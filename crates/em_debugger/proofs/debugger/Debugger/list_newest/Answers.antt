@@ -49,7 +49,7 @@ returns-in-Ok g c =
     (g.W.Write.contents c.write_held.new.writer) c.in_ok-count.count) (omega arith) c.in_ok-count.ensures.ok in
     let on = GoesOn-deeper d d.tape d.tape c.in-Ok.deep c.args.sort 0 c.args.most _ _ _ 0 _ _
     (GoesOn-none d d.tape c.args.sort 0 c.args.most _) held (omega arith)
-          (omega (arith, held.few, c.if-count-most.false))
+    (omega (arith, held.few, c.if-count-most.false))
     (omega (arith, c.next_unseen-next.ensures)) c.in-Ok.ensures.again
     (subst (λ n. IsSeen n c.in-Ok.deep) c.next_unseen-next.ensures c.in-Ok.ensures.seen) in
     record {
