@@ -14,7 +14,7 @@ from second_reading import NAMES_BESIDES
 from tally import CRATES
 
 # words that stand behind a command's name
-BEHIND = "PHY again all changes differs down dropped frames line link off on refused rx sent tx until".split()
+BEHIND = "PHY again all changes differs down dropped frames line link off on refused rx sent tx until wrote".split()
 
 
 def commands() -> list[str]:

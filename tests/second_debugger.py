@@ -102,6 +102,8 @@ class Debugger:
         self.wanted: list[str] = []
         self.behind = [Behind(machine, (), 0, [], 0, None, False)]
         self.whole = self.back = 0
+        # which event a name means
+        self.marks: dict[str, int] = {}
 
     # ---- the place
 
@@ -194,6 +196,7 @@ class Debugger:
         dropped = len(self.lines) - line
         shown = self.state(), len(self.standing())
         del self.lines[line:], self.shown[line:], self.sources[line:], self.wanted[line:], self.behind[line + 1 :]
+        self.marks = {name: event for name, event in self.marks.items() if event <= self.behind[-1].performed}
         self.whole, self.back = line, 0
         while back > 0:
             step = min(back, MOST_BACK)
@@ -252,6 +255,15 @@ class Debugger:
         return next((one for one in reversed(held) if one.number < below and watch.offset is not None
                      and one.was.get("offset") == watch.offset), None)
 
+    def writes(self, offset: int) -> list[Event]:
+        """The events that stand and wrote a register, the newest first."""
+        return [one for one in reversed(self.standing()) if one.was["kind"] == "write" and one.was["offset"] == offset]
+
+    def accesses(self, target: "Watch") -> list[Event]:
+        """The events that stand and read or wrote a register or an octet of guest memory, the newest first."""
+        reads = touches if target.count else lambda was, _: was.get("offset") == target.offset
+        return [one for one in reversed(self.standing()) if reads(one.was, target.at)]
+
     def unchanged(self, watch: "Watch", below: int) -> str:
         """What is told where no event with a smaller number changed what is watched."""
         is_before = any(one.number >= below for one in self.standing())
@@ -287,6 +299,14 @@ def came(access: Event) -> str:
     if value == held:
         return ", which it held"
     return ", which left it as it was" if value & held else ", of which no bit is kept"
+
+
+def touches(was: dict, at: int) -> bool:
+    """Whether an event read or wrote an octet: of a memory write, of an engine's descriptor, or of its buffer."""
+    pieces = [(was["address"], was["length"])] if was["kind"] == "poke" else []
+    if "at" in was:
+        pieces += [(was["at"], 16), (was["buffer"], was["octets"])]
+    return any(first <= at < first + length for first, length in pieces)
 
 
 def is_undone(answer: list[str]) -> bool:

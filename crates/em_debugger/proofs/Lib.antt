@@ -18,7 +18,8 @@
 --   2  DeeperLaws (`deeper`): second tapes; WhoLaws (`who_all`): changes, each older than the one before
 --      EffectLaws (`effect`): what is told of an event; LedLaws: the event that was found led so; AddingLaws
 --      (`do_again`)
---      AccessedLaws (`newest_access`), LostLaws (`lost_in`): events that were no access, or lost no frame
+--      AccessesLaws (`newest_in`, `list_newest`): events of a sort; AccessedLaws (`newest_access`), LostLaws
+--      (`lost_in`): events that were no access, or lost no frame
 --      WhyLaws (`newest_undone`): the newest line whose event did nothing
 -- Warnings (`has_warnings`): WarningsLaws: what rules said of each line stays beside it
 -- Lines as they are listed (`write_around`, `write_lines_between`, `list_all`):
@@ -28,6 +29,7 @@
 --      added
 --   2  OffersLaws (`write_script`): frames that are offered; SendingLaws (`make_place`): lines that sent frames
 pub mod AccessedLaws
+pub mod AccessesLaws
 pub mod AddingLaws
 pub mod AnsweringLaws
 pub mod BeginningLaws

@@ -58,4 +58,5 @@ keeps_beside old new none = let e = none.rest in record {
   score = ap (λ (d : Debugger). d.score) e;
   engines = ap (λ (d : Debugger). d.engines) e;
   offered = ap (λ (d : Debugger). d.offered) e;
+  bookmarks = ap (λ (d : Debugger). d.bookmarks) e;
 }

@@ -19,6 +19,8 @@ use Rattle.em_prompt.specs.declared.typed.Shown.{Shown}
 use Rattle.em_prompt.specs.declared.typed.Shown.TheVariants as shown
 use Rattle.em_prompt.specs.WrongText.{wrong_text}
 use Rattle.em_debugger.specs.declared.debugger.Debugger.{Debugger}
+use Rattle.em_debugger.specs.Accesses.{AnswersAccesses, TellsWrote}
+use Rattle.em_debugger.specs.Bookmarks.{GoesToMark, MarksPlace, marks_text}
 use Rattle.em_debugger.specs.Disk.{Deed}
 use Rattle.em_debugger.specs.Effect.{AnswersEffect, asked_event}
 use Rattle.em_debugger.specs.Engines.{engines_are, steps_of}
@@ -46,11 +48,14 @@ abbrev pub Shows : Debugger → Shown → List ℕ → Type 0
 Shows d (shown.Look reg) text = text ≡ register_text d.tape.session.machine.present reg
 Shows d (shown.List lines) text = text ≡ excerpt_text d lines
 Shows d (shown.History most) text = ShowsHistory d most text
+Shows d (shown.Accesses target most) text = AnswersAccesses d target most text
+Shows d (shown.Wrote reg) text = TellsWrote d reg text
 Shows d (shown.Effect event) text = AnswersEffect d (asked_event event d.tape) text
 Shows d (shown.Ring side) text = text ≡ ring_text d.tape.session.machine.present side
 Shows d (shown.Frame None) text = text ≡ waiting_text d.tape.session.machine.present.fifo
 Shows d (shown.Frame (Some index)) text = text ≡ sent_text d.tape.session.machine.present.wire index
 Shows d (shown.Memory addr len) text = text ≡ memory_text d.tape.session.machine.present addr len
+Shows d shown.Marks text = text ≡ marks_text d.bookmarks.all.items
 Shows d shown.Why text = TellsWhy d text
 Shows d shown.Warnings text = text ≡ warned_text d
 Shows d (shown.Help (Some command)) text = text ≡ line_of command
@@ -68,6 +73,8 @@ ObeysAlone old new (typed.back_to number) text = GoesBeforeLine number old new t
 ObeysAlone old new (typed.forward_to number) text = GoesBeforeLine number old new text
 ObeysAlone old new (typed.forward events) text = GoesToEvent (forward_by events old.tape) old new text
 ObeysAlone old new (typed.goto event) text = GoesToEvent event old new text
+ObeysAlone old new (typed.goto_mark name) text = GoesToMark name old new text
+ObeysAlone old new (typed.mark name) text = MarksPlace name old new text
 ObeysAlone old new (typed.who watch which) text = AnswersWho old new watch which text
 ObeysAlone old new typed.who_again text = TellsAgain old new old.asked text
 ObeysAlone old new (typed.warnings on) text = (new ≡ record old { warns = on }) × (text ≡ warnings_are on)

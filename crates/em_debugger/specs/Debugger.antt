@@ -34,6 +34,7 @@ pub record Begins (given : Settings) (d : Debugger) : Type 0 where
   pub score : d.score ≡ record { agreed = 0; differed = 0; warnings = 0 }
   pub engines : d.engines ≡ 0
   pub offered : lists d.offered.items ≡ []
+  pub bookmarks : d.bookmarks.all.items ≡ []
 
 -- all but the tape, the answers that lines expect and their marks is as it was
 pub record KeepsSome (old new : Debugger) : Type 0 where
@@ -46,6 +47,7 @@ pub record KeepsSome (old new : Debugger) : Type 0 where
   pub score : new.score ≡ old.score
   pub engines : new.engines ≡ old.engines
   pub offered : new.offered ≡ old.offered
+  pub bookmarks : new.bookmarks ≡ old.bookmarks
   pub sent : new.sent ≡ old.sent
 
 -- all but the place on the tape is as it was

@@ -1,6 +1,8 @@
 pub mod Accessed
+pub mod Accesses
 pub mod Answering
 pub mod BenchLooks
+pub mod Bookmarks
 pub mod Came
 pub mod Compare
 pub mod Counted

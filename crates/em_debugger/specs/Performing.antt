@@ -17,6 +17,7 @@ use Rattle.em_warnings.specs.Warnings.{found_text}
 use Rattle.em_debugger.specs.declared.debugger.Debugger.{Debugger}
 use Rattle.em_debugger.specs.declared.performing.Performed.{Performed}
 use Rattle.em_debugger.specs.BenchLooks.{is_look, look_text}
+use Rattle.em_debugger.specs.Bookmarks.{ForgetsAhead}
 use Rattle.em_debugger.specs.Came.{Comes}
 use Rattle.em_debugger.specs.Debugger.{KeepsSome, came, told}
 use Rattle.em_debugger.specs.Engines.{Engages}
@@ -54,6 +55,7 @@ pub record Performs (old new : Debugger) (performed : Performed) : Type 0 where
   pub score : new.score ≡ scored (record new { score = old.score }) performed.line
   pub engines : new.engines ≡ old.engines
   pub offered : new.offered ≡ old.offered
+  pub bookmarks : new.bookmarks ≡ old.bookmarks
 
 -- and then an engine's step was put behind it, if an engine makes one by itself
 pub record PerformsNext (old new : Debugger) (performed : Performed) : Type 0 where
@@ -82,6 +84,7 @@ pub record KeepsBeside (old new : Debugger) : Type 0 where
   pub score : new.score ≡ old.score
   pub engines : new.engines ≡ old.engines
   pub offered : new.offered ≡ old.offered
+  pub bookmarks : new.bookmarks ≡ old.bookmarks
 
 -- the place stays, or the line in which it lies is whole
 pub data StaysAt (old new : Tape) : Type 0 where
@@ -142,7 +145,7 @@ abbrev pub kept : Tape → ℕ → ℕ
 kept tape dropped = length tape.lines - dropped
 
 -- the lines ahead of the place were dropped, so many of them, with what was told of them, how they came out, what they
--- expect, their marks, what they sent, their warnings, and what was asked
+-- expect, their marks, what they sent, their warnings, names of places there, and what was asked
 pub record Cuts (old new : Debugger) (dropped : ℕ) : Type 0 where
   pub tape : IsCut old.tape new.tape dropped
   pub told : texts new.told.answers.items ≡ take (kept old.tape dropped) (texts old.told.answers.items)
@@ -157,6 +160,7 @@ pub record Cuts (old new : Debugger) (dropped : ℕ) : Type 0 where
   pub score : new.score ≡ old.score
   pub engines : new.engines ≡ old.engines
   pub offered : new.offered ≡ old.offered
+  pub bookmarks : ForgetsAhead old new
 
 -- they were dropped, and what is played of a line that was given was put behind the place, with the answer that it expects, and
 -- the line as it was given where it says more
@@ -170,9 +174,10 @@ pub record AddsLine (old new : Debugger) (line given : List ℕ) (dropped : ℕ)
       (texts new.marks.answers.items)
   pub rest : KeepsSome between new
 
--- memory was refused to what drops them: all beside the tape stays
-abbrev pub Uncut : Debugger → Debugger → Type 0
-Uncut old new = new ≡ record old { tape = new.tape }
+-- memory was refused to what drops them: all beside the tape stays, but names of places that are left
+pub record Uncut (old new : Debugger) : Type 0 where
+  pub rest : new ≡ record old { tape = new.tape; bookmarks = new.bookmarks }
+  pub bookmarks : ForgetsAhead old new
 
 -- No line was put behind the place: those ahead of it were not dropped; or they were, and what stands beside those that are
 -- left stays.

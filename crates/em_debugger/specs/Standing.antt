@@ -62,6 +62,7 @@ by_typed d before (typed.back_to line) = by_move d before
 by_typed d before (typed.forward events) = by_move d before
 by_typed d before (typed.forward_to line) = by_move d before
 by_typed d before (typed.goto event) = by_move d before
+by_typed d before (typed.goto_mark name) = by_move d before
 by_typed d before typed.quit = became.Ended
 by_typed d before _ = became.Told
 

@@ -49,7 +49,7 @@ fn is_access(watch: Watch, note: Note) -> bool
     }
 }
 
-fn is_access_kind(kind: Kind) -> bool
+pub(crate) fn is_access_kind(kind: Kind) -> bool
     ensures { result ≡ is_access_kind kind }
 {
     matches!(kind, Kind::Read | Kind::Write)

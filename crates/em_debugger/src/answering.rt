@@ -10,6 +10,7 @@ ghost use Rattle.em_debugger.specs.Disk.{Did};
 ghost use Rattle.em_debugger.specs.Answering.{Answers, AnswersBench, AnswersPrompted, Obeys, Shows, TellsWrong};
 ghost use Rattle.em_debugger.specs.Answering.{asking, flow_of, warnings_are};
 
+use crate::bookmarks::write_marks;
 use crate::debugger::Debugger;
 use crate::disk::Disk;
 use crate::nowhere::tell_nowhere;
@@ -109,6 +110,8 @@ impl Debugger {
             Typed::BackTo(line) | Typed::ForwardTo(line) => self.go_before_line(writer, line),
             Typed::Forward(events) => self.forward(writer, events),
             Typed::Goto(event) => self.go(writer, u64::from(event)),
+            Typed::GotoMark(name) => self.go_to_mark(writer, name),
+            Typed::Mark(name) => self.mark(writer, name),
             Typed::Who(watch, which) => self.who(writer, watch, which),
             Typed::WhoAgain => self.who_again(writer),
             Typed::Load(name) => self.load(writer, disk, name),
@@ -136,11 +139,14 @@ impl Debugger {
             Shown::Look(reg) => show_register(writer, machine, reg),
             Shown::List(lines) => self.excerpt(writer, lines),
             Shown::History(most) => self.history(writer, most),
+            Shown::Accesses(target, most) => self.accesses(writer, target, most),
+            Shown::Wrote(reg) => self.who_wrote(writer, reg),
             Shown::Effect(event) => self.effect(writer, event),
             Shown::Ring(side) => show_ring(writer, machine, side),
             Shown::Frame(None) => show_waiting(writer, machine),
             Shown::Frame(Some(index)) => show_sent(writer, machine, index),
             Shown::Memory(addr, len) => show_memory(writer, machine, addr, len),
+            Shown::Marks => write_marks(writer, &self.bookmarks),
             Shown::Why => self.why(writer),
             Shown::Warnings => self.list_warnings(writer),
             Shown::Help(Some(command)) => write_help(writer, command),

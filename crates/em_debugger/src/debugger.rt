@@ -6,6 +6,7 @@ ghost use Rattle.em_script.specs.Session.{bare};
 ghost use Rattle.em_tape.specs.Tape.{empty_tape};
 ghost use Rattle.em_debugger.specs.Debugger.{Begins};
 
+use crate::bookmarks::Bookmarks;
 use crate::came::Came;
 use crate::expected::Score;
 use crate::sending::Sent;
@@ -51,6 +52,8 @@ pub struct Debugger {
     pub(crate) engines: u32,
     // the frames of a capture that was loaded, each as a line that brings it
     pub(crate) offered: VecDeque<Vec<u8>>,
+    // the places that have names
+    pub(crate) bookmarks: Bookmarks,
 }
 
 impl Debugger {
@@ -77,6 +80,7 @@ impl Debugger {
                 score: Score::none(),
                 engines: 0,
                 offered: VecDeque::new(alloc),
+                bookmarks: Bookmarks::new(alloc),
             }),
             Err(refusal) => Err(refusal),
         }

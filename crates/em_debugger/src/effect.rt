@@ -24,7 +24,14 @@ impl Debugger {
         ensures ok { OnOk result ((text : List ℕ) × Appends (W.contents writer.old) (W.contents writer.new) text
             × AnswersEffect self.now (asked_event typed self.now.tape) text) }
     {
-        let event = asked_event(typed, &self.tape);
+        self.effect_of(writer, asked_event(typed, &self.tape))
+    }
+
+    /// Shows what the event of a number changed, if it stands.
+    pub(crate) fn effect_of<W: Write>(&self, writer: &mut W, event: u64) -> Result<(), WriteFailed>
+        ensures ok { OnOk result ((text : List ℕ) × Appends (W.contents writer.old) (W.contents writer.new) text
+            × AnswersEffect self.now event text) }
+    {
         if stands(event, &self.tape) {
             self.write_standing(writer, event)
         } else {

@@ -332,7 +332,7 @@ fn is_something(did: Did) -> bool
 }
 
 /// How many lines are shown where so many are asked for, if it is said.
-fn most_of(typed: Option<u32>) -> usize
+pub(crate) fn most_of(typed: Option<u32>) -> usize
     ensures { result ≡ most_of typed }
 {
     match typed {

@@ -5,8 +5,10 @@
 #![tactic(auto)]
 
 mod accessed;
+mod accesses;
 mod answering;
 mod bench_looks;
+mod bookmarks;
 mod came;
 mod compare;
 mod debugger;

@@ -120,7 +120,9 @@ impl Debugger {
         ensures only { IfErr result (λ fault. fault ≡ BenchFault.Memory) }
     {
         let lines = self.tape.len();
-        let dropped = self.tape.cut()?;
+        let cut = self.tape.cut();
+        self.bookmarks.keep(self.tape.end_of(self.tape.performed()));
+        let dropped = cut?;
         // Lines that take events back may stand where others were dropped.
         let kept = lines.saturating_sub(dropped);
         self.told.keep(kept);

@@ -74,7 +74,7 @@ fn in_deeper(deep: &mut Tape, watch: Watch) -> Sought
 }
 
 /// The number of the newest event that a journal does not hold, from so many steps back on; 0 where it holds all.
-fn next_unseen(tape: &Tape, back: usize) -> u64
+pub(crate) fn next_unseen(tape: &Tape, back: usize) -> u64
     ensures { result ≡ next_unseen tape.now back }
 {
     tape.event_back(tape.machine().can_go_back().max(back))

@@ -65,7 +65,7 @@ impl Debugger {
             }
             Typed::ArriveNext | Typed::ArriveAll => self.by_performed(before),
             Typed::Back(_) | Typed::BackTo(_) | Typed::Goto(_) => self.by_move(before),
-            Typed::Forward(_) | Typed::ForwardTo(_) => self.by_move(before),
+            Typed::Forward(_) | Typed::ForwardTo(_) | Typed::GotoMark(_) => self.by_move(before),
             Typed::Quit => Became::Ended,
             _ => Became::Told,
         }

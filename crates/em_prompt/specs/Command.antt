@@ -28,11 +28,16 @@ row_of command.Mac = (codes "mac", codes "mac [DATA]: reads or sets the driver's
 row_of command.Turns =
     (codes "turns", codes "turns WORD ..: what others do between the accesses of the driver's next call")
 row_of command.Look = (codes "look", codes "look NAME|OFF: shows a register with its bits, and no event")
-row_of command.Who =
-    (codes "who", codes "who WATCH [again|all]: the last event that changed it; who again: the one before")
+row_of command.Who = (
+  codes "who",
+  codes "who WATCH [again|all]: the last event that changed it; who again: the one before; who wrote NAME|OFF",
+)
 row_of command.Back = (codes "back", codes "back [N]: N events back; back to LINE")
 row_of command.Forward = (codes "forward", codes "forward [N]: N events forward; forward to LINE")
-row_of command.Goto = (codes "goto", codes "goto EVENT: to where so many events are performed")
+row_of command.Goto =
+    (codes "goto", codes "goto EVENT|NAME: to where so many events are performed, or to the place of a name")
+row_of command.Mark = (codes "mark", codes "mark NAME: gives the place a name")
+row_of command.Marks = (codes "marks", codes "marks: shows the places that have names")
 row_of command.Next = (codes "next", codes "next [N]: performs N lines")
 row_of command.Run = (codes "run", codes "run [until refused|dropped|differs|warning|LINE|WATCH changes]: performs lines")
 row_of command.Load =
@@ -42,6 +47,8 @@ row_of command.SaveOver = (codes "save!", codes "save! FILE: the same, over a fi
 row_of command.List =
     (codes "list", codes "list [LINE [LAST]]: shows lines of the script: around the place or LINE, or from LINE to LAST")
 row_of command.History = (codes "history", codes "history [N]: shows the newest N events")
+row_of command.Accesses =
+    (codes "accesses", codes "accesses NAME|ADDR [N]: the newest N reads and writes of a register or an octet")
 row_of command.Effect = (codes "effect", codes "effect [EVENT]: shows what an event changed")
 row_of command.Ring = (codes "ring", codes "ring rx|tx: shows the descriptors of a ring")
 row_of command.Frame =
@@ -70,8 +77,8 @@ abbrev pub commands : List Command
 commands = command.Read ∷ command.Write ∷ command.Poke ∷ command.Peek ∷ command.Arrive ∷ command.Rx ∷ command.Tx ∷
     command.Link ∷ command.Init ∷ command.Send ∷ command.Recv ∷
     command.Stats ∷ command.Mac ∷ command.Turns ∷ command.Look ∷ command.Who ∷ command.Back ∷ command.Forward ∷
-    command.Goto ∷ command.Next ∷ command.Run ∷ command.Load ∷ command.Save ∷ command.SaveOver ∷ command.List ∷
-    command.History ∷ command.Effect ∷ command.Ring ∷ command.Frame ∷ command.Memory ∷ command.Why ∷ command.Warnings ∷
+    command.Goto ∷ command.Mark ∷ command.Marks ∷ command.Next ∷ command.Run ∷ command.Load ∷ command.Save ∷ command.SaveOver ∷ command.List ∷
+    command.History ∷ command.Accesses ∷ command.Effect ∷ command.Ring ∷ command.Frame ∷ command.Memory ∷ command.Why ∷ command.Warnings ∷
     command.Auto ∷ command.Pcap ∷ command.PcapOver ∷ command.Help ∷ command.Quit ∷ []
 
 abbrev pub other_command : List ℕ → Option Command

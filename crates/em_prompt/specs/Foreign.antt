@@ -21,6 +21,7 @@ row_of foreign.ReverseNext = (codes "reverse-next", codes "back")
 row_of foreign.ReverseStepi = (codes "reverse-stepi", codes "back")
 row_of foreign.ReverseContinue = (codes "reverse-continue", codes "goto 0")
 row_of foreign.Watch = (codes "watch", codes "run until WATCH changes")
+row_of foreign.Awatch = (codes "awatch", codes "accesses NAME|ADDR")
 row_of foreign.Print = (codes "print", codes "look NAME")
 row_of foreign.P = (codes "p", codes "look NAME")
 row_of foreign.X = (codes "x", codes "memory ADDR LEN")
@@ -40,7 +41,7 @@ here_of f = (row_of f).1
 abbrev pub foreigns : List Foreign
 foreigns = foreign.Break ∷ foreign.B ∷ foreign.Continue ∷ foreign.C ∷ foreign.Step ∷ foreign.S ∷ foreign.Stepi ∷
     foreign.Si ∷ foreign.Finish ∷ foreign.Until ∷ foreign.ReverseStep ∷ foreign.ReverseNext ∷ foreign.ReverseStepi ∷
-    foreign.ReverseContinue ∷ foreign.Watch ∷ foreign.Print ∷ foreign.P ∷ foreign.X ∷ foreign.Info ∷
+    foreign.ReverseContinue ∷ foreign.Watch ∷ foreign.Awatch ∷ foreign.Print ∷ foreign.P ∷ foreign.X ∷ foreign.Info ∷
     foreign.I ∷ foreign.Backtrace ∷ foreign.Bt ∷ foreign.Where ∷ foreign.Set ∷ []
 
 -- the one that a word is

@@ -9,6 +9,7 @@ use Rattle.em_prompt.specs.declared.kind.Kind.TheVariants as kind
 abbrev pub called : Kind → List ℕ
 called kind.Register = codes "OFF"
 called kind.Known = codes "a register"
+called kind.Target = codes "a register or ADDR"
 called kind.Value = codes "VAL"
 called kind.Address = codes "ADDR"
 called kind.Data = codes "DATA"
@@ -17,6 +18,7 @@ called kind.FrameLen = codes "LEN"
 called kind.Turn = codes "a turn"
 called kind.Watch = codes "WATCH"
 called kind.File = codes "FILE"
+called kind.Name = codes "NAME"
 called kind.LastLine = codes "LAST"
 called (kind.Number number.Peeked) = codes "LEN"
 called (kind.Number number.Watched) = codes "LEN"
@@ -35,6 +37,7 @@ called (kind.Choice Switch) = codes "on or off"
 
 -- what is said of it, behind that, where a word is none
 abbrev pub rule : Kind → List ℕ
+rule kind.Name = codes " begins with a letter"
 rule kind.Value = codes " is 1 to 8 hexadecimal digits, or names of bits"
 rule kind.Address = codes " is 1 to 16 hexadecimal digits"
 rule kind.Data = codes " is octets, of two hexadecimal digits each"

@@ -10,8 +10,8 @@ use Rattle.em_prompt.specs.declared.command.Command.TheVariants as command
 use Rattle.em_prompt.specs.declared.kind.Choice.TheVariants.{Way as Ways, Side as Sides, Until as Untils, Changes as Change}
 use Rattle.em_prompt.specs.declared.kind.Choice.TheVariants.{Switch}
 use Rattle.em_prompt.specs.declared.kind.Kind.{Kind}
-use Rattle.em_prompt.specs.declared.kind.Kind.TheVariants.{Register, Known, Value, Address, Data, Turn, Watch as Watches}
-use Rattle.em_prompt.specs.declared.kind.Kind.TheVariants.{File, Number as Numbers, Choice}
+use Rattle.em_prompt.specs.declared.kind.Kind.TheVariants.{Register, Known, Target, Value, Address, Data, Turn, Watch as Watches}
+use Rattle.em_prompt.specs.declared.kind.Kind.TheVariants.{File, Name, Number as Numbers, Choice}
 use Rattle.em_prompt.specs.declared.number.Number.{Number}
 use Rattle.em_prompt.specs.declared.number.Number.TheVariants.{Peeked, Watched, Packets, Count, Line as LineNumber, Event, Index}
 use Rattle.em_prompt.specs.declared.number.Number.TheVariants.{Word}
@@ -35,7 +35,7 @@ use Rattle.em_prompt.specs.Register.{named}
 use Rattle.em_prompt.specs.Until as until
 use Rattle.em_prompt.specs.Value.{Offset, address_in, command_in, data_in, ethernet_in, frame_len_in, kept_number_in, known_in}
 use Rattle.em_prompt.specs.Value.{last_line_in, number_in, offset_in, shown_address_in, side_in, switch_in, value_in, watch_in, way_in}
-use Rattle.em_prompt.specs.Value.{which_in, within}
+use Rattle.em_prompt.specs.Value.{begins_with_letter, name_in, target_in, which_in, within}
 use Rattle.em_prompt.specs.Watch as watched
 use Rattle.em_prompt.specs.Watch.{Watch, is_phy}
 use Rattle.em_prompt.specs.Word.{hex_address_in}
@@ -179,11 +179,16 @@ abbrev pub which_if : List (List ℕ) → Result (Which × List (List ℕ)) Faul
 which_if [] = Ok (Newest, [])
 which_if (word ∷ words) = with (which_in word) (λ which. Ok (which, words))
 
--- who again, who WATCH, who WATCH again, who WATCH all
+-- behind who: wrote NAME, wrote OFF
+abbrev pub wrote_of : Profile → List (List ℕ) → Result Typed Fault
+wrote_of profile words = one Known (known_in profile) (λ reg. typed.show (shown.Wrote reg)) words
+
+-- who again, who wrote NAME, who wrote OFF, who WATCH, who WATCH again, who WATCH all
 abbrev pub who_of : Profile → List (List ℕ) → Result Typed Fault
 who_of profile [] = Err (missing Watches)
 who_of profile (word ∷ words) =
     if bytes_eq word (codes "again") then alone typed.who_again words else
+    if bytes_eq word (codes "wrote") then wrote_of profile words else
     with (watch_at profile word words) (λ watch. with (which_if watch.1) (λ which. alone (typed.who watch.0 which.0) which.1))
 
 -- back, back N, back to LINE; and forward so
@@ -201,9 +206,16 @@ move_of way (word ∷ words) =
     if bytes_eq word (codes "to") then one (Numbers LineNumber) (number_in LineNumber) (moves_to way) words else
     with (number_in Count word) (λ n. alone (moves_by way n) words)
 
--- goto EVENT
+-- goto EVENT, goto NAME
 abbrev pub goto_of : List (List ℕ) → Result Typed Fault
-goto_of words = one (Numbers Event) (number_in Event) typed.goto words
+goto_of [] = Err (missing (Numbers Event))
+goto_of (word ∷ words) =
+    if begins_with_letter word then alone (typed.goto_mark word) words else
+    with (number_in Event word) (λ n. alone (typed.goto n) words)
+
+-- mark NAME
+abbrev pub mark_of : List (List ℕ) → Result Typed Fault
+mark_of words = one Name name_in typed.mark words
 
 -- next, next N
 abbrev pub next_of : List (List ℕ) → Result Typed Fault
@@ -267,6 +279,13 @@ effect_of words = with (number_if Event words) (λ event. alone (typed.show (sho
 abbrev pub frame_of : List (List ℕ) → Result Typed Fault
 frame_of words = with (number_if Index words) (λ index. alone (typed.show (shown.Frame index.0)) index.1)
 
+-- accesses NAME, accesses ADDR, and N behind that
+abbrev pub accesses_of : Profile → List (List ℕ) → Result Typed Fault
+accesses_of profile [] = Err (missing Target)
+accesses_of profile (word ∷ words) =
+    with (target_in profile word) (λ target. with (number_if Count words)
+    (λ most. alone (typed.show (shown.Accesses target most.0)) most.1))
+
 -- ring rx, ring tx
 abbrev pub ring_of : List (List ℕ) → Result Typed Fault
 ring_of words = one (Choice Sides) side_in (λ side. typed.show (shown.Ring side)) words
@@ -320,6 +339,8 @@ says profile command.Who rest = who_of profile (words_of rest)
 says profile command.Back rest = move_of Back (words_of rest)
 says profile command.Forward rest = move_of Forward (words_of rest)
 says profile command.Goto rest = goto_of (words_of rest)
+says profile command.Mark rest = mark_of (words_of rest)
+says profile command.Marks rest = alone (typed.show shown.Marks) (words_of rest)
 says profile command.Next rest = next_of (words_of rest)
 says profile command.Run rest = run_of profile (words_of rest)
 says profile command.Load rest = file_of typed.load rest
@@ -329,6 +350,7 @@ says profile command.Pcap rest = file_of typed.pcap rest
 says profile command.PcapOver rest = file_of typed.pcap_over rest
 says profile command.List rest = list_of (words_of rest)
 says profile command.History rest = history_of (words_of rest)
+says profile command.Accesses rest = accesses_of profile (words_of rest)
 says profile command.Effect rest = effect_of (words_of rest)
 says profile command.Ring rest = ring_of (words_of rest)
 says profile command.Frame rest = frame_of (words_of rest)

@@ -26,6 +26,10 @@ pub data Typed : Type 0 where
   forward : ℕ → Typed
   forward_to : ℕ → Typed
   goto : ℕ → Typed
+  -- to the place of a name
+  goto_mark : List ℕ → Typed
+  -- the place gets a name
+  mark : List ℕ → Typed
   next : ℕ → Typed
   run : Typed
   run_until : Until → Typed
@@ -54,6 +58,8 @@ plain (lent.BackTo n) = back_to n
 plain (lent.Forward n) = forward n
 plain (lent.ForwardTo n) = forward_to n
 plain (lent.Goto n) = goto n
+plain (lent.GotoMark name) = goto_mark name.now
+plain (lent.Mark name) = mark name.now
 plain (lent.Next n) = next n
 plain lent.Run = run
 plain (lent.RunUntil u) = run_until (until.plain u)

@@ -1,8 +1,8 @@
 -- What a word writes, or what is wrong with it.
-use Rattle.std.specs.Prelude.{ℕ, Bool, true, false, ◌/◌, ◌%◌, ◌==◌, ◌&&◌, ◌||◌, nat_le, if◌then◌else◌, List, length, codes}
+use Rattle.std.specs.Prelude.{ℕ, Bool, true, false, ◌/◌, ◌%◌, ◌==◌, ◌&&◌, ◌||◌, nat_le, if◌then◌else◌, List, [], ◌∷◌, length, codes}
 use Rattle.std.specs.Borrow.{Bor}
 use Rattle.std.specs.Prelude.{Option, Some, None, Result, Ok, Err}
-use Rattle.std.specs.Char.{is_ascii_hexdigit}
+use Rattle.std.specs.Char.{is_ascii_alphabetic, is_ascii_hexdigit}
 use Rattle.std.specs.List.{list_all}
 use Rattle.std.specs.Str.{bytes_eq}
 use Rattle.em_text.specs.Numbers.{decimal_number, octets_of}
@@ -14,11 +14,13 @@ use Rattle.em_regs.specs.declared.reg.Reg.{Reg}
 use Rattle.em_regs.specs.Table.{offset_of, reg_of}
 use Rattle.em_prompt.specs.declared.command.Command.{Command}
 use Rattle.em_prompt.specs.declared.kind.Choice.TheVariants.{Way, Side as OfSides, More, Switch}
-use Rattle.em_prompt.specs.declared.kind.Kind.TheVariants.{Value, Address, Data, Ethernet, FrameLen, LastLine, Number as OfNumber}
+use Rattle.em_prompt.specs.declared.kind.Kind.TheVariants.{Value, Address, Data, Ethernet, FrameLen, LastLine, Name, Number as OfNumber}
 use Rattle.em_prompt.specs.declared.kind.Kind.TheVariants.{Choice}
 use Rattle.em_prompt.specs.declared.number.Number.{Number}
 use Rattle.em_prompt.specs.declared.typed.Side.{Side}
 use Rattle.em_prompt.specs.declared.typed.Side.TheVariants.{Receive, Transmit}
+use Rattle.em_prompt.specs.declared.typed.Target.{Target}
+use Rattle.em_prompt.specs.declared.typed.Target.TheVariants as target
 use Rattle.em_prompt.specs.declared.typed.Which.{Which}
 use Rattle.em_prompt.specs.declared.typed.Which.TheVariants.{Again, All}
 use Rattle.em_prompt.specs.declared.watch.Watch.{Watch as Coded}
@@ -124,6 +126,15 @@ value_in reg word = if is_some (hex_number_in word) then Ok (bare word) else nam
 abbrev pub known_in : Profile → List ℕ → Result Reg Fault
 known_in profile word = or_fault (no_register word) (known profile word)
 
+-- a register of a profile by its name, or an address in guest memory
+abbrev pub target_with : List ℕ → Option Reg → Option ℕ → Result Target Fault
+target_with word (Some reg) at = Ok (target.Register reg)
+target_with word None (Some addr) = Ok (target.Octet addr)
+target_with word None None = Err (no_register word)
+
+abbrev pub target_in : Profile → List ℕ → Result Target Fault
+target_in profile word = target_with word (named profile word) (hex_address_in word)
+
 -- an address, of what is shown, and as it is kept
 abbrev pub shown_address_in : List ℕ → Result ℕ Fault
 shown_address_in word = or_fault (no Address) (hex_address_in word)
@@ -182,6 +193,14 @@ watch_in profile word = or_fault (no_register word) (watched profile word)
 -- the name of a command, or its first letters
 abbrev pub command_in : List ℕ → Result Command Fault
 command_in word = or_fault (no_command word) (meant word)
+
+-- the name of a place: it begins with a letter
+abbrev pub begins_with_letter : List ℕ → Bool
+begins_with_letter [] = false
+begins_with_letter (octet ∷ octets) = is_ascii_alphabetic octet
+
+abbrev pub name_in : List ℕ → Result (List ℕ) Fault
+name_in word = if begins_with_letter word then Ok word else Err (no Name)
 
 -- up or down
 abbrev pub way_in : List ℕ → Result (List ℕ) Fault

@@ -31,6 +31,8 @@ pub enum Command {
     Back,
     Forward,
     Goto,
+    Mark,
+    Marks,
     Next,
     Run,
     Load,
@@ -38,6 +40,7 @@ pub enum Command {
     SaveOver,
     List,
     History,
+    Accesses,
     Effect,
     Ring,
     Frame,
@@ -75,10 +78,13 @@ macro_rules! table {
             Mac, "mac", "mac [DATA]: reads or sets the driver's Ethernet address";
             Turns, "turns", "turns WORD ..: what others do between the accesses of the driver's next call";
             Look, "look", "look NAME|OFF: shows a register with its bits, and no event";
-            Who, "who", "who WATCH [again|all]: the last event that changed it; who again: the one before";
+            Who, "who",
+                "who WATCH [again|all]: the last event that changed it; who again: the one before; who wrote NAME|OFF";
             Back, "back", "back [N]: N events back; back to LINE";
             Forward, "forward", "forward [N]: N events forward; forward to LINE";
-            Goto, "goto", "goto EVENT: to where so many events are performed";
+            Goto, "goto", "goto EVENT|NAME: to where so many events are performed, or to the place of a name";
+            Mark, "mark", "mark NAME: gives the place a name";
+            Marks, "marks", "marks: shows the places that have names";
             Next, "next", "next [N]: performs N lines";
             Run, "run", "run [until refused|dropped|differs|warning|LINE|WATCH changes]: performs lines";
             Load, "load", "load FILE: puts the lines of a file behind the others, or offers the frames of a capture";
@@ -87,6 +93,7 @@ macro_rules! table {
             List, "list",
                 "list [LINE [LAST]]: shows lines of the script: around the place or LINE, or from LINE to LAST";
             History, "history", "history [N]: shows the newest N events";
+            Accesses, "accesses", "accesses NAME|ADDR [N]: the newest N reads and writes of a register or an octet";
             Effect, "effect", "effect [EVENT]: shows what an event changed";
             Ring, "ring", "ring rx|tx: shows the descriptors of a ring";
             Frame, "frame", "frame [I]: shows the frames that wait in the adapter, or octets of sent frame I, from 0";

@@ -21,6 +21,7 @@ pub enum Foreign {
     ReverseStepi,
     ReverseContinue,
     Watch,
+    Awatch,
     Print,
     P,
     X,
@@ -51,6 +52,7 @@ macro_rules! table {
             ReverseStepi, "reverse-stepi", "back";
             ReverseContinue, "reverse-continue", "goto 0";
             Watch, "watch", "run until WATCH changes";
+            Awatch, "awatch", "accesses NAME|ADDR";
             Print, "print", "look NAME";
             P, "p", "look NAME";
             X, "x", "memory ADDR LEN";

@@ -28,6 +28,8 @@ pub enum Kind {
     Register,
     /// A register of the table, by its name or its offset.
     Known,
+    /// A register of the table by its name, or an address in guest memory.
+    Target,
     /// A value of the register before it: a number, or names of bits.
     Value,
     /// An address in guest memory.
@@ -44,6 +46,8 @@ pub enum Kind {
     Watch,
     /// The name of a file.
     File,
+    /// The name of a place.
+    Name,
     /// The last of several lines, by its number.
     LastLine,
     /// A number in decimal digits.
@@ -60,6 +64,7 @@ impl Kind {
         match self {
             Kind::Register => "OFF",
             Kind::Known => "a register",
+            Kind::Target => "a register or ADDR",
             Kind::Value => "VAL",
             Kind::Address => "ADDR",
             Kind::Data | Kind::Ethernet => "DATA",
@@ -67,6 +72,7 @@ impl Kind {
             Kind::Turn => "a turn",
             Kind::Watch => "WATCH",
             Kind::File => "FILE",
+            Kind::Name => "NAME",
             Kind::LastLine => "LAST",
             Kind::Number(Number::Peeked) | Kind::Number(Number::Watched) => "LEN",
             Kind::Number(Number::Packets) => "N",
@@ -89,6 +95,7 @@ impl Kind {
         ensures { result.now ≡ rule self }
     {
         match self {
+            Kind::Name => " begins with a letter",
             Kind::Value => " is 1 to 8 hexadecimal digits, or names of bits",
             Kind::Address => " is 1 to 16 hexadecimal digits",
             Kind::Data => " is octets, of two hexadecimal digits each",

@@ -6,7 +6,8 @@ ghost use Rattle.em_line.specs.Grammar.{turns_form};
 ghost use Rattle.em_prompt.specs.Kept.{behind_text};
 ghost use Rattle.em_prompt.specs.Typed.{plain as plain_typed};
 ghost use Rattle.em_prompt.specs.Value.{file_so, read_with, watch_read_with};
-ghost use Rattle.em_prompt.specs.Says.{plain, arrive_of, auto_of, bench, changes_of, effect_of, file_in, frame_line, frame_of};
+ghost use Rattle.em_prompt.specs.Says.{accesses_of, mark_of, plain, wrote_of};
+ghost use Rattle.em_prompt.specs.Says.{arrive_of, auto_of, bench, changes_of, effect_of, file_in, frame_line, frame_of};
 ghost use Rattle.em_prompt.specs.Says.{goto_of, help_of, history_of, lines_from, line_or_changes, link_of, list_of, look_of, mac_of, memory_of};
 ghost use Rattle.em_prompt.specs.Says.{move_of, moves_by, moves_to, next_of, number_if, peek_of, plan_of, poke_of, read_of, recv_of, ring_of};
 ghost use Rattle.em_prompt.specs.Says.{run_of, says, send_of, until_of, warnings_by, warnings_of, watch_at, watched_address, which_if, who_of, write_of};
@@ -21,8 +22,9 @@ use crate::register::named;
 use crate::told::without_blanks;
 use crate::typed::{Lines, Shown, Typed, Until, Which};
 use crate::value::{
-    address_in, command_in, data_in, ethernet_in, frame_len_in, known_in, last_line_in, offset_in,
-    phy_word_in, shown_address_in, side_in, switch_in, value_in, watch_in, way_in, which_in,
+    address_in, begins_with_letter, command_in, data_in, ethernet_in, frame_len_in, known_in,
+    last_line_in, name_in, offset_in, phy_word_in, shown_address_in, side_in, switch_in, target_in,
+    value_in, watch_in, way_in, which_in,
 };
 use crate::watch::{Watch, is_phy};
 use crate::watched_len::WatchedLen;
@@ -89,6 +91,8 @@ pub(crate) fn says<'a>(profile: Profile, command: Command, words: Words<'a>) -> 
         Command::Back => move_of(Way::Back, words),
         Command::Forward => move_of(Way::Forward, words),
         Command::Goto => goto_of(words),
+        Command::Mark => mark_of(words),
+        Command::Marks => alone(Typed::Show(Shown::Marks), words),
         Command::Next => next_of(words),
         Command::Run => run_of(profile, words),
         Command::Load => Ok(Typed::Load(file_in(words)?)),
@@ -98,6 +102,7 @@ pub(crate) fn says<'a>(profile: Profile, command: Command, words: Words<'a>) -> 
         Command::PcapOver => Ok(Typed::PcapOver(file_in(words)?)),
         Command::List => list_of(words),
         Command::History => history_of(words),
+        Command::Accesses => accesses_of(profile, words),
         Command::Effect => effect_of(words),
         Command::Ring => ring_of(words),
         Command::Frame => frame_of(words),
@@ -261,7 +266,7 @@ fn look_of<'a>(profile: Profile, mut words: Words<'a>) -> Result<Typed<'a>, Faul
     alone(Typed::Show(Shown::Look(reg)), words)
 }
 
-/// who again, who WATCH, who WATCH again, who WATCH all
+/// who again, who wrote NAME, who wrote OFF, who WATCH, who WATCH again, who WATCH all
 fn who_of<'a>(profile: Profile, mut words: Words<'a>) -> Result<Typed<'a>, Fault<'a>>
     ensures { plain result ≡ who_of profile (words_of words.entry.0.now) }
 {
@@ -269,9 +274,20 @@ fn who_of<'a>(profile: Profile, mut words: Words<'a>) -> Result<Typed<'a>, Fault
     if is_name(word, b"again") {
         return alone(Typed::WhoAgain, words);
     }
+    if is_name(word, b"wrote") {
+        return wrote_of(profile, words);
+    }
     let watch = watch_at(profile, word, &mut words)?;
     let which = which_if(&mut words)?;
     alone(Typed::Who(watch, which), words)
+}
+
+/// NAME, or OFF, behind `who wrote`
+fn wrote_of<'a>(profile: Profile, mut words: Words<'a>) -> Result<Typed<'a>, Fault<'a>>
+    ensures { plain result ≡ wrote_of profile (words_of words.entry.0.now) }
+{
+    let reg = known_in(profile, next(&mut words, Kind::Known)?)?;
+    alone(Typed::Show(Shown::Wrote(reg)), words)
 }
 
 /// WATCH, which begins with a word: PHY N, ADDR LEN, or that word alone.
@@ -326,12 +342,24 @@ fn move_of<'a>(way: Way, mut words: Words<'a>) -> Result<Typed<'a>, Fault<'a>>
     }
 }
 
-/// goto EVENT
+/// goto EVENT, goto NAME
 fn goto_of<'a>(mut words: Words<'a>) -> Result<Typed<'a>, Fault<'a>>
     ensures { plain result ≡ goto_of (words_of words.entry.0.now) }
 {
-    let event = Number::Event.of(next(&mut words, Kind::Number(Number::Event))?)?;
+    let word = next(&mut words, Kind::Number(Number::Event))?;
+    if begins_with_letter(word) {
+        return alone(Typed::GotoMark(word), words);
+    }
+    let event = Number::Event.of(word)?;
     alone(Typed::Goto(event), words)
+}
+
+/// mark NAME
+fn mark_of<'a>(mut words: Words<'a>) -> Result<Typed<'a>, Fault<'a>>
+    ensures { plain result ≡ mark_of (words_of words.entry.0.now) }
+{
+    let name = name_in(next(&mut words, Kind::Name)?)?;
+    alone(Typed::Mark(name), words)
 }
 
 /// next, next N
@@ -455,6 +483,15 @@ fn history_of<'a>(mut words: Words<'a>) -> Result<Typed<'a>, Fault<'a>>
 {
     let most = number_if(&mut words, Number::Count)?;
     alone(Typed::Show(Shown::History(most)), words)
+}
+
+/// accesses NAME, accesses ADDR, and N behind that
+fn accesses_of<'a>(profile: Profile, mut words: Words<'a>) -> Result<Typed<'a>, Fault<'a>>
+    ensures { plain result ≡ accesses_of profile (words_of words.entry.0.now) }
+{
+    let target = target_in(profile, next(&mut words, Kind::Target)?)?;
+    let most = number_if(&mut words, Number::Count)?;
+    alone(Typed::Show(Shown::Accesses(target, most)), words)
 }
 
 /// effect, effect EVENT

@@ -50,6 +50,14 @@ pub enum Lines {
     Between(u32, u32),
 }
 
+/// What is accessed.
+#[derive(Clone, Copy, PartialEq, Eq, Debug)]
+pub enum Target {
+    Register(Reg),
+    /// The octet of guest memory at an address.
+    Octet(u64),
+}
+
 /// What is shown, and changes nothing.
 #[derive(Clone, Copy, PartialEq, Eq, Debug)]
 pub enum Shown {
@@ -57,6 +65,10 @@ pub enum Shown {
     /// Lines of the script.
     List(Lines),
     History(Option<u32>),
+    /// The newest accesses, so many.
+    Accesses(Target, Option<u32>),
+    /// The newest event that wrote a register.
+    Wrote(Reg),
     /// What an event changed: the newest one, or another.
     Effect(Option<u32>),
     Ring(Side),
@@ -64,6 +76,8 @@ pub enum Shown {
     Frame(Option<u32>),
     /// So many octets of guest memory, from an address on.
     Memory(u64, u32),
+    /// The places that have names.
+    Marks,
     /// Why the newest event did nothing.
     Why,
     /// What drivers get wrong, rule by rule.
@@ -93,6 +107,10 @@ pub enum Typed<'a> {
     ForwardTo(u32),
     /// To where so many events are performed.
     Goto(u32),
+    /// To the place of this name.
+    GotoMark(&'a [u8]),
+    /// Name the place so.
+    Mark(&'a [u8]),
     /// Perform so many lines.
     Next(u32),
     /// Perform all lines.

@@ -4,7 +4,8 @@ ghost use Rattle.em_prompt.specs.Fault.{plain as plain_fault};
 ghost use Rattle.em_prompt.specs.Kept.{kept_text};
 ghost use Rattle.em_prompt.specs.Value.{read_so, kept_so, offset_so, address_in, command_in, data_fault, data_in};
 ghost use Rattle.em_prompt.specs.Value.{ethernet_in, frame_len_in, known_in, last_line_in, offset_in, shown_address_in, side_in, switch_in};
-ghost use Rattle.em_prompt.specs.Value.{number_in, phy_word_so, value_in, watch_in, watch_so, way_in, which_in};
+ghost use Rattle.em_prompt.specs.Value.{begins_with_letter, file_so, name_in, number_in, phy_word_so, target_in};
+ghost use Rattle.em_prompt.specs.Value.{value_in, watch_in, watch_so, way_in, which_in};
 ghost use Rattle.em_prompt.specs.declared.number.Number.TheVariants.{Word};
 ghost use Rattle.em_prompt.specs.Word.{data_digits};
 ghost use Rattle.std.specs.List.{list_all};
@@ -17,7 +18,7 @@ use crate::kept::Kept;
 use crate::kind::{Choice, Kind};
 use crate::number::Number;
 use crate::register::{known, named};
-use crate::typed::{Side, Which};
+use crate::typed::{Side, Target, Which};
 use crate::watch::{Watch, watched};
 use crate::word::{
     ADDRESS_DIGITS, address_digits, data_len, hex_address_in, hex_number_in, is_address, is_data,
@@ -55,6 +56,19 @@ pub(crate) fn offset_in(profile: Profile, word: &[u8]) -> Result<Offset<'_>, Fau
             kept: Kept::Word(bare(word)),
             reg: Reg::of_offset_in(profile, offset),
         }),
+        None => Err(Fault::NoRegister(word)),
+    }
+}
+
+/// A register of a profile by its name, or an address in guest memory.
+pub(crate) fn target_in(profile: Profile, word: &[u8]) -> Result<Target, Fault<'_>>
+    ensures { read_so result ≡ target_in profile word.now }
+{
+    if let Some(reg) = named(profile, word) {
+        return Ok(Target::Register(reg));
+    }
+    match hex_address_in(word) {
+        Some(addr) => Ok(Target::Octet(addr)),
         None => Err(Fault::NoRegister(word)),
     }
 }
@@ -205,6 +219,27 @@ pub(crate) fn command_in(word: &[u8]) -> Result<Command, Fault<'_>>
     match Command::meant(word) {
         Some(command) => Ok(command),
         None => Err(Fault::NoCommand(word)),
+    }
+}
+
+/// The name of a place.
+pub(crate) fn name_in(word: &[u8]) -> Result<&[u8], Fault<'_>>
+    ensures { file_so result ≡ name_in word.now }
+{
+    if begins_with_letter(word) {
+        Ok(word)
+    } else {
+        Err(Fault::No(Kind::Name))
+    }
+}
+
+/// Whether a word begins with a letter.
+pub(crate) fn begins_with_letter(word: &[u8]) -> bool
+    ensures { result ≡ begins_with_letter word.now }
+{
+    match word {
+        [first, ..] => first.is_ascii_alphabetic(),
+        [] => false,
     }
 }
 

@@ -20,6 +20,7 @@ returns-clause-ok c = record {
     score = refl;
     engines = refl;
     offered = refl;
+    bookmarks = refl;
     sent = refl;
   };
 }
@@ -42,5 +43,6 @@ returns-in_err-add_given-clause-err c =
       score = refl;
       engines = refl;
       offered = refl;
+      bookmarks = refl;
       sent = refl;
     }))

@@ -2,7 +2,7 @@ use Rattle.std.proofs.Common.{false, refl, true}
 use Rattle.em_prompt.specs.BenchLine.{plain as plain_line}
 use Rattle.em_prompt.specs.Until.{plain as plain_until}
 use Rattle.em_prompt.specs.Watch.{plain as plain_watch}
-use Rattle.em_prompt.specs.Typed.{arrive_all, arrive_next, line, next, run_until, who, who_again}
+use Rattle.em_prompt.specs.Typed.{arrive_all, arrive_next, line, mark, next, run_until, who, who_again}
 use Rattle.em_prompt.specs.Typed.{pcap, pcap_over, save, save_over}
 use Rattle.em_debugger.specs.Answering.{Obeys}
 use Rattle.em_debugger.specs.Disk.{Did}
@@ -78,3 +78,6 @@ returns-in-PcapOver g c =
 
 pub returns-in-Show : goal.returns-in-Show
 returns-in-Show g c = record { ok = rw c.in-Show.is (shown (Did g.D.Disk.passes c.args.disk.now c.args.disk.now) c.args.self.now c.in-Show.shown _ _ c.show.result refl c.show.ensures.ok) }
+
+pub returns-in-Mark : goal.returns-in-Mark
+returns-in-Mark g c = record { ok = rw c.in-Mark.is (alone (Did g.D.Disk.passes c.args.disk.now c.args.disk.now) c.args.self.now c.mark.new.self (mark c.in-Mark.name.now) _ _ c.mark.result refl (λ t h. h) c.mark.ensures.ok) }

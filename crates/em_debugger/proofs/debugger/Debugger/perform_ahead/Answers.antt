@@ -62,6 +62,7 @@ returns-in-Ok-note-clause-some c =
       score = refl;
       engines = refl;
       offered = refl;
+      bookmarks = refl;
     })
 
 pub returns-in_err-make_ready-clause-err : goal.returns-in_err-make_ready-clause-err
@@ -79,6 +80,7 @@ returns-in_err-make_ready-clause-err c =
       score = refl;
       engines = refl;
       offered = refl;
+      bookmarks = refl;
     }) (stays refl))
 
 pub returns-in_err-prepare-clause-err : goal.returns-in_err-prepare-clause-err
@@ -96,6 +98,7 @@ returns-in_err-prepare-clause-err c =
       score = refl;
       engines = refl;
       offered = refl;
+      bookmarks = refl;
     }) (stays refl))
 
 pub returns-in_err-to_line-clause-err : goal.returns-in_err-to_line-clause-err
@@ -113,6 +116,7 @@ returns-in_err-to_line-clause-err c =
       score = refl;
       engines = refl;
       offered = refl;
+      bookmarks = refl;
     }) (stays c.in_err-to_line.ensures.err))
 
 pub returns-in-Err-clause-err : goal.returns-in-Err-clause-err
@@ -139,6 +143,7 @@ returns-in-Err-clause-err c =
       score = refl;
       engines = refl;
       offered = refl;
+      bookmarks = refl;
     }) c.in-Err.ensures.only (λ is. c.in-Err.ensures.write (ap Err is))
     (λ is. c.in-Err.ensures.memory (ap Err is))
 
@@ -162,6 +167,7 @@ returns-in-Err-note-clause-err c =
       score = refl;
       engines = refl;
       offered = refl;
+      bookmarks = refl;
     }) (record {
       before = before;
       whole = record {
@@ -194,6 +200,7 @@ returns-in_default-clause-err c =
       score = refl;
       engines = refl;
       offered = refl;
+      bookmarks = refl;
     }) (record {
       before = before;
       whole = record {
@@ -226,6 +233,7 @@ returns-in_default-warned_by-clause-err c =
       score = refl;
       engines = refl;
       offered = refl;
+      bookmarks = refl;
     }) (record {
       before = before;
       whole = record {

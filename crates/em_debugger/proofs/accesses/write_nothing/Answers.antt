@@ -1,0 +1,32 @@
+use Rattle.std.proofs.Common.{◌++◌, refl}
+use Rattle.std.specs.Prelude.{codes}
+use Rattle.std.proofs.lemmas.Result.{MatchResult-from_err}
+use Rattle.em_text.proofs.WritingLemmas.{WroteFront-more, WroteFront-none, WroteFront-part, Writes-more}
+use Rattle.em_debugger.specs.Accesses.{did_text, nothing_text}
+use Rattle.em_debugger.proofs.accesses.write_nothing.Goals as goal
+
+pub returns-in_err-write_whole : goal.returns-in_err-write_whole
+returns-in_err-write_whole g c =
+    let wrote-0 = WroteFront-none (g.W.Write.contents c.args.writer.now) (nothing_text c.args.sort) in
+    record {
+      writes = MatchResult-from_err _ _ _ c.from_residual.ensures.0 (λ _.
+          WroteFront-part (did_text c.args.sort ++ (codes "\n")) wrote-0 refl c.in_err-write_whole.ensures.writes);
+    }
+
+pub returns-in_err-write_did : goal.returns-in_err-write_did
+returns-in_err-write_did g c =
+    let wrote-0 = WroteFront-none (g.W.Write.contents c.args.writer.now) (nothing_text c.args.sort) in
+    let wrote-1 = WroteFront-more (codes "nothing ") wrote-0 refl c.in_ok-write_whole.ensures.writes in
+    record {
+      writes = MatchResult-from_err _ _ _ c.from_residual-in_err-write_did.ensures.0 (λ _.
+          WroteFront-part (codes "\n") wrote-1 refl c.in_err-write_did.ensures.writes);
+    }
+
+pub returns : goal.returns
+returns g c =
+    let wrote-0 = WroteFront-none (g.W.Write.contents c.args.writer.now) (nothing_text c.args.sort) in
+    let wrote-1 = WroteFront-more (codes "nothing ") wrote-0 refl c.in_ok-write_whole.ensures.writes in
+    let wrote-2 = WroteFront-more (did_text c.args.sort) wrote-1 refl c.in_ok-write_did.ensures.writes in
+    record {
+      writes = Writes-more _ _ _ _ wrote-2.front (codes "\n") _ wrote-2.written c.write_whole-2.ensures.writes wrote-2.whole;
+    }
