@@ -219,19 +219,30 @@ def count_total(s: State, frames: int, octets: int, counted: int) -> None:
         s.count(octets, counted)
 
 
-def accepts(s: State, frame: bytes) -> bool:
-    rctl = s.at(RCTL)
+def kind_of(frame: bytes) -> tuple[int, bool]:
+    """Whether a frame goes to a group, and to all."""
+    return frame[0] & 1, frame[:6] == b"\xFF" * 6
+
+
+def takes_destination(s: State, frame: bytes) -> bool:
+    """Whether the table has a frame's destination, or it is the broadcast address and BAM is set."""
+    rctl, (is_group, is_broadcast) = s.at(RCTL), kind_of(frame)
     address = int.from_bytes(frame[:6], "little")
     table = set()
     for i in range(16):
         high = s.at(0x5404 + 8 * i)
         if high >> 31 and not high >> 16 & 3:
             table.add(s.at(0x5400 + 8 * i) | (high & 0xFFFF) << 32)
-    is_group, is_broadcast = frame[0] & 1, address == 2**48 - 1
+    return bool(address in table or (is_broadcast and rctl >> 15 & 1))
+
+
+def accepts(s: State, frame: bytes) -> bool:
+    rctl, (is_group, is_broadcast) = s.at(RCTL), kind_of(frame)
+    address = int.from_bytes(frame[:6], "little")
     hashed = address >> (36, 35, 34, 32)[rctl >> 12 & 3] & 0xFFF
     in_hash = s.at(0x5200 + 4 * (hashed >> 5)) >> (hashed & 31) & 1
-    return bool(address in table or (not is_group and rctl >> 3 & 1) or (is_group and rctl >> 4 & 1)
-                or (is_broadcast and rctl >> 15 & 1) or (is_group and in_hash))
+    return bool(takes_destination(s, frame) or (not is_group and rctl >> 3 & 1) or (is_group and rctl >> 4 & 1)
+                or (is_group and in_hash))
 
 
 def is_control(frame: bytes) -> bool:
@@ -242,15 +253,27 @@ def is_pause(frame: bytes) -> bool:
     return is_control(frame) and frame[14:16] == b"\x00\x01"
 
 
-def is_taken_besides(s: State, frame: bytes) -> bool:
-    """Whether the second profile takes a frame by its source, or as a MAC control frame."""
-    if not s.is_second:
-        return False
+def takes_source(s: State, frame: bytes) -> bool:
+    """Whether an entry of sources has a frame's source."""
     source = int.from_bytes(frame[6:12], "little")
     for i in range(0, 16):
         high = s.at(0x5404 + 8 * i)
         if high >> 31 and high >> 16 & 3 == 1 and source == s.at(0x5400 + 8 * i) | (high & 0xFFFF) << 32:
             return True
+    return False
+
+
+def is_inexact(s: State, frame: bytes) -> bool:
+    """Whether PIF is set with a frame's last octet: in the second profile, where no exact filter takes it."""
+    return s.is_second and not takes_destination(s, frame) and not takes_source(s, frame)
+
+
+def is_taken_besides(s: State, frame: bytes) -> bool:
+    """Whether the second profile takes a frame by its source, or as a MAC control frame."""
+    if not s.is_second:
+        return False
+    if takes_source(s, frame):
+        return True
     return bool(s.at(RCTL) >> 23 & 1) and is_control(frame) and not is_pause(frame)
 
 
@@ -346,6 +369,8 @@ def handled(s: State, kind: str) -> dict:
     descriptor = s.octets(at, 16)
     buffer, count = int.from_bytes(descriptor[:8], "little"), int.from_bytes(descriptor[8:10], "little")
     if kind == "rx":
+        if s.is_second and buffer == 0:
+            return {"at": at, "buffer": at, "octets": 0}
         count = min(len(s.fifo[0][0]) - s.taken, buffer_size(s))
     elif s.is_second and buffer == 0:
         count = 0
@@ -362,13 +387,19 @@ def receive(s: State) -> tuple[str, int]:
         raise Refused("DmaRange")
     to = int.from_bytes(s.octets(at, 8), "little")
     frame, tag = s.fifo[0]
-    piece = frame[s.taken : s.taken + buffer_size(s)]
+    takes_none = s.is_second and to == 0
+    piece = b"" if takes_none else frame[s.taken : s.taken + buffer_size(s)]
     if to + len(piece) > s.size():
         raise Refused("DmaRange")
-    s.store(to, piece)
     is_last = s.taken + len(piece) == len(frame)
     status, special = (0x05, 0) if not is_last else (0x07, 0) if tag is None else (0x0F, tag)
-    s.store(at + 8, len(piece).to_bytes(2, "little") + b"\0\0" + bytes([status, 0]) + special.to_bytes(2, "little"))
+    if is_last and is_inexact(s, frame):
+        status += 0x80
+    if takes_none:
+        s.store(at + 12, bytes([s.octets(at + 12, 1)[0] | 1]))
+    else:
+        s.store(to, piece)
+        s.store(at + 8, len(piece).to_bytes(2, "little") + b"\0\0" + bytes([status, 0]) + special.to_bytes(2, "little"))
     s.put(RECEIVE + 0x10, (head + 1) % n)
     s.taken += len(piece)
     if is_last:

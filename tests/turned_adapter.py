@@ -233,4 +233,29 @@ SENT = [
     ("one descriptor has 16,287 octets", "length > 16288", "length > 16287"),
     ("16,288 octets are those of a frame", "s.is_second and length > 16288", "s.is_second and len(s.gathered) + length > 16288"),
 ]
-TURNED = [*STORED, *STARTED, *FILTERED, *BAD_FRAMES, *SENT, *LOST_ACCESSES, *CHECK_SEQUENCE, *COSTS, *PINS, *PHY]
+RECEIVED = [
+    ("a null descriptor takes octets", "takes_none = s.is_second and to == 0", "takes_none = False"),
+    ("32 bits of a receive address are 0", "takes_none = s.is_second and to == 0",
+     "to *= not s.is_second or to % 2 ** 32 != 0\n    takes_none = s.is_second and to == 0"),
+    ("63 bits of a receive address are 0", "takes_none = s.is_second and to == 0",
+     "to *= not s.is_second or to % 2 ** 63 != 0\n    takes_none = s.is_second and to == 0"),
+    ("the receive address 1 is null", "takes_none = s.is_second and to == 0", "takes_none = s.is_second and to < 2"),
+    ("DD of a null descriptor stays", "s.octets(at + 12, 1)[0] | 1]", "s.octets(at + 12, 1)[0]]"),
+    ("a null descriptor's status starts anew", "bytes([s.octets(at + 12, 1)[0] | 1])", "bytes([1])"),
+    ("a null descriptor has IXSM", "s.octets(at + 12, 1)[0] | 1]", "s.octets(at + 12, 1)[0] | 5]"),
+    ("a null descriptor's length is written", "        s.store(at + 12, bytes([s.octets(at + 12, 1)[0] | 1]))\n",
+     "        s.store(at + 8, b\"\\0\\0\")\n        s.store(at + 12, bytes([s.octets(at + 12, 1)[0] | 1]))\n"),
+    ("a null descriptor is the last one", "    is_last = s.taken + len(piece) == len(frame)\n",
+     "    is_last = takes_none or s.taken + len(piece) == len(frame)\n"),
+    ("PIF never", "    if is_last and is_inexact(s, frame):\n", "    if False:\n"),
+    ("PIF with each piece", "    if is_last and is_inexact(s, frame):\n", "    if is_inexact(s, frame):\n"),
+    ("PIF is bit 6", "        status += 0x80\n", "        status += 0x40\n"),
+    ("PIF of a frame for the table", "s.is_second and not takes_destination(s, frame) and not takes_source",
+     "s.is_second and not takes_source"),
+    ("PIF of a frame by its source", " and not takes_source(s, frame)\n", "\n"),
+    ("PIF of a group alone", "s.is_second and not takes_destination(s, frame) and", "s.is_second and frame[0] & 1 and not "
+     "takes_destination(s, frame) and"),
+    ("PIF of a unicast address alone", "s.is_second and not takes_destination(s, frame) and",
+     "s.is_second and not frame[0] & 1 and not takes_destination(s, frame) and"),
+]
+TURNED = [*RECEIVED, *STORED, *STARTED, *FILTERED, *BAD_FRAMES, *SENT, *LOST_ACCESSES, *CHECK_SEQUENCE, *COSTS, *PINS, *PHY]

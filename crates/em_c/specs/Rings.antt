@@ -16,8 +16,8 @@ use Rattle.em_c.specs.declared.rings.EmDescriptor.{EmDescriptor}
 -- the receive ring is 1, and the transmit ring 2
 abbrev pub sided : ℕ → View → Result SidedRing Refused
 sided side v =
-    if side == 1 then Ok (rx_ring (rx_setup v.present.registers))
-    else if side == 2 then Ok (tx_ring (tx_setup v.present.registers))
+    if side == 1 then Ok (rx_ring v.present.profile (rx_setup v.present.registers))
+    else if side == 2 then Ok (tx_ring v.present.profile (tx_setup v.present.registers))
     else Err NoRing
 
 -- how many octets each buffer has, by the registers

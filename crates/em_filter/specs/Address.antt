@@ -9,6 +9,7 @@ use Rattle.std.specs.Prelude.{
   ◌==◌,
   ◌&&◌,
   ◌||◌,
+  not,
   Bool,
   List,
   [],
@@ -76,6 +77,14 @@ has_hash s hash = bit (mta s (hash / 32)) (hash % 32)
 -- the fifth: a group address whose hash the multicast table has
 abbrev pub passes_hash : Registers → Kind → ℕ → Bool
 passes_hash s kind a = is_group kind && has_hash s (hash_of s a)
+
+-- an exact filter accepts a frame of this destination and this source: the table, BAM, or an entry of sources
+abbrev pub is_exact : Profile → Registers → ℕ → ℕ → Bool
+is_exact p s to from = is_in_table s to || passes_bam s (kind_of to) || has_source p s from
+
+-- none does, which is told in the second profile alone
+unfoldable pub is_inexact : Profile → Registers → ℕ → ℕ → Bool
+is_inexact p s to from = is_second p && not (is_exact p s to from)
 
 unfoldable pub accepts : Registers → ℕ → Bool
 accepts s a =

@@ -2,7 +2,7 @@
 ghost use Rattle.std.specs.Prelude.{◌≡◌, ◌<◌, ◌==◌};
 ghost use Rattle.std.specs.List.{list_any, range_with_len};
 ghost use Rattle.em_address.specs.Kind.{destination};
-ghost use Rattle.em_filter.specs.Address.{has_source, is_source_at};
+ghost use Rattle.em_filter.specs.Address.{has_source, is_exact, is_inexact, is_source_at};
 ghost use Rattle.em_filter.specs.Address.{accepts, entry, has_hash, hash_of, is_entry_at, is_in_table};
 ghost use Rattle.em_filter.specs.Address.{passes_bam, passes_hash, passes_mpe, passes_upe};
 
@@ -43,6 +43,24 @@ pub(crate) fn has_source(profile: Profile, regs: &RegFile, address: &[u8; 6]) ->
     ensures { result ≡ has_source profile regs.now (destination address.now) }
 {
     bits::is_second(profile) && is_a_source(regs, address)
+}
+
+/// Whether an exact filter accepts a frame of this destination and this source.
+fn is_exact(profile: Profile, regs: &RegFile, to: &[u8; 6], from: &[u8; 6]) -> bool
+    ensures { result ≡ is_exact profile regs.now (destination to.now) (destination from.now) }
+{
+    passes_bam(regs, kind_of(to)) || is_in_table(regs, to) || has_source(profile, regs, from)
+}
+
+/// Whether no exact filter accepts a frame of this destination and this source, so that PIF is set (manual, chapter on
+/// packet reception: receive descriptor status): in the second profile alone.
+///
+/// Exact are the entries of RAL and RAH, and BAM for the broadcast address; UPE, MPE and the multicast table are not.
+#[tactic(auto, unfolding(crate::specs::Address::is_inexact))]
+pub fn is_inexact(profile: Profile, regs: &RegFile, to: &[u8; 6], from: &[u8; 6]) -> bool
+    ensures { result ≡ is_inexact profile regs.now (destination to.now) (destination from.now) }
+{
+    bits::is_second(profile) && !is_exact(profile, regs, to, from)
 }
 
 /// An entry of sources is the address.

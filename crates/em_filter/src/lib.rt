@@ -9,7 +9,7 @@ mod filters;
 mod outcome;
 mod vlan;
 
-pub use address::hash_of;
+pub use address::{hash_of, is_inexact};
 pub use control::is_other_control;
 pub use em_address::{Kind, kind_of};
 pub use filters::{CHECK_OCTETS, longest, passes_address, verdict};

@@ -1,5 +1,5 @@
 -- A descriptor as a line.
-use Rattle.std.specs.Prelude.{ℕ, if◌then◌else◌, Bool, List, [], ◌++◌, codes, decimal, Option, Some, None}
+use Rattle.std.specs.Prelude.{ℕ, if◌then◌else◌, Bool, List, ◌++◌, codes, Option, Some, None}
 use Rattle.em_inspect.specs.declared.ring.Owner.{Owner}
 use Rattle.em_inspect.specs.declared.ring.Owner.TheVariants.{Adapter, Driver}
 use Rattle.em_inspect.specs.declared.descriptor.Fields.{Fields}

@@ -1,5 +1,5 @@
 -- Ranges of addresses.
-use Rattle.std.specs.Prelude.{ℕ, ◌+◌, max, min, nat_lt, Bool}
+use Rattle.std.specs.Prelude.{◌+◌, max, min, nat_lt, Bool}
 use Rattle.em_inspect.specs.declared.extent.Extent.{Extent}
 
 -- both have an octet in common

@@ -1,8 +1,9 @@
 -- Descriptor rings, and descriptors as they lie in guest memory.
-use Rattle.std.specs.Prelude.{ℕ, ◌+◌, ◌*◌, ◌&&◌, ◌||◌, nat_lt, nat_le, if◌then◌else◌, Bool, List, length, slice_index}
+use Rattle.std.specs.Prelude.{ℕ, ◌*◌, ◌&&◌, ◌||◌, nat_lt, nat_le, if◌then◌else◌, Bool, List, slice_index}
 use Rattle.std.specs.Prelude.{Option, Some, None}
 use Rattle.std.specs.Option.{option_map}
 use Rattle.em_mem.specs.Memory.{leaves, part}
+use Rattle.em_regs.specs.declared.profile.Profile.{Profile}
 use Rattle.em_regs.specs.declared.setup.RxSetup.{RxSetup}
 use Rattle.em_regs.specs.declared.setup.TxSetup.{TxSetup}
 use Rattle.em_regs.specs.declared.ring.Ring.{Ring}
@@ -20,12 +21,12 @@ use Rattle.em_inspect.specs.declared.descriptor.Fields.{Fields}
 use Rattle.em_inspect.specs.declared.extent.Extent.{Extent}
 
 -- the receive ring that the registers set up
-abbrev pub rx_ring : RxSetup → SidedRing
-rx_ring q = record { side = Receive q.buffer; setup = ring.rx_ring q }
+abbrev pub rx_ring : Profile → RxSetup → SidedRing
+rx_ring p q = record { side = Receive q.buffer; setup = ring.rx_ring q; profile = p }
 
 -- the transmit ring
-abbrev pub tx_ring : TxSetup → SidedRing
-tx_ring q = record { side = Transmit; setup = ring.tx_ring q }
+abbrev pub tx_ring : Profile → TxSetup → SidedRing
+tx_ring p q = record { side = Transmit; setup = ring.tx_ring q; profile = p }
 
 -- descriptor i is the adapter's: from the head up to but not the tail, going round; none is where either stands past
 -- the last descriptor

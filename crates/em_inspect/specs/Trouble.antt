@@ -1,11 +1,12 @@
 -- What is wrong with a descriptor.
-use Rattle.std.specs.Prelude.{ℕ, ◌+◌, ◌==◌, ◌&&◌, nat_lt, not, if◌then◌else◌, Bool, true, false, List, length, find}
+use Rattle.std.specs.Prelude.{ℕ, ◌==◌, ◌&&◌, nat_lt, not, if◌then◌else◌, Bool, true, false, List, find}
 use Rattle.std.specs.Prelude.{Option, Some, None}
 use Rattle.std.specs.Option.{option_map, option_map_or}
 use Rattle.std.specs.List.{range_with_len}
 use Rattle.em_mem.specs.Memory.{leaves}
 use Rattle.em_regs.specs.declared.ring.Ring.{Ring}
 use Rattle.em_regs.specs.Setup.{bit}
+use Rattle.em_rx.specs.Control.{is_null_at}
 use Rattle.em_inspect.specs.declared.ring.Side.{Side}
 use Rattle.em_inspect.specs.declared.ring.Side.TheVariants.{Receive, Transmit}
 use Rattle.em_inspect.specs.declared.ring.Owner.{Owner}
@@ -50,10 +51,17 @@ size_of Transmit f = f.length
 abbrev pub buffer_of : Side → Fields → Extent
 buffer_of side f = record { at = f.buffer; size = size_of side f }
 
+-- no octet goes into a descriptor's buffer or out of it, by its address: in the second profile
+abbrev pub is_null : SidedRing → Fields → Bool
+is_null r f = is_null_at r.profile f.buffer
+
+-- a descriptor has a buffer
+abbrev pub has_buffer : SidedRing → Fields → Bool
+has_buffer r f = not (is_extended f.bits) && not (is_null r f)
+
 -- the buffer of descriptor i, where that is live and has one
 abbrev pub claimed : SidedRing → ℕ → Fields → Option Extent
-claimed r i f =
-    if is_live (owner_of r.setup i) f.bits && not (is_extended f.bits) then Some (buffer_of r.side f) else None
+claimed r i f = if is_live (owner_of r.setup i) f.bits && has_buffer r f then Some (buffer_of r.side f) else None
 
 abbrev pub claim_in : SidedRing → ℕ → Option Fields → Option Extent
 claim_in r i None = None
@@ -82,17 +90,17 @@ lowest_over r base memory i buffer = find (is_over r base memory i buffer) (rang
 
 -- ---- in the order in which they are told
 
--- what a transmit descriptor's format and length have against it
-abbrev pub sent_trouble : Fields → Option Trouble
-sent_trouble f =
-    if is_extended f.bits then Some Extended
-    else if f.length == 0 then Some NoLength
-    else if nat_lt 16380 f.length then Some TooLong
-    else None
+-- what a transmit descriptor's length has against it
+abbrev pub length_trouble : ℕ → Option Trouble
+length_trouble n = if n == 0 then Some NoLength else if nat_lt 16380 n then Some TooLong else None
 
-abbrev pub format_trouble : Side → Fields → Option Trouble
-format_trouble (Receive size) f = None
-format_trouble Transmit f = sent_trouble f
+-- what its format and its length have, by whether it has octets
+abbrev pub sent_trouble : Bool → Fields → Option Trouble
+sent_trouble null f = if is_extended f.bits then Some Extended else if null then None else length_trouble f.length
+
+abbrev pub format_trouble : Side → Bool → Fields → Option Trouble
+format_trouble (Receive size) null f = None
+format_trouble Transmit null f = sent_trouble null f
 
 -- what is wrong with the buffer of descriptor i
 abbrev pub buffer_trouble : SidedRing → ℕ → List ℕ → ℕ → Extent → Option Trouble
@@ -109,7 +117,8 @@ or_else (Some trouble) _ = Some trouble
 -- what is wrong with a live descriptor
 abbrev pub live_trouble : SidedRing → ℕ → List ℕ → ℕ → Fields → Option Trouble
 live_trouble r base memory i f =
-    or_else (format_trouble r.side f) (buffer_trouble r base memory i (buffer_of r.side f))
+    or_else (format_trouble r.side (is_null r f) f)
+    (if is_null r f then None else buffer_trouble r base memory i (buffer_of r.side f))
 
 abbrev pub trouble_in : SidedRing → ℕ → List ℕ → ℕ → Option Fields → Option Trouble
 trouble_in r base memory i None = Some Outside

@@ -4,7 +4,7 @@ ghost use Rattle.em_regs.specs.Setup.{rx_setup, tx_setup};
 ghost use Rattle.em_inspect.specs.Ring.{is_adapters, owner_of, rx_ring, tx_ring};
 
 use em_journal::Machine;
-use em_regs::Ring;
+use em_regs::{Profile, Ring};
 
 /// Which way frames go through a ring.
 #[derive(Clone, Copy, Debug, PartialEq, Eq)]
@@ -31,27 +31,31 @@ pub struct SidedRing {
     pub side: Side,
     /// How the registers set the ring up.
     pub setup: Ring,
+    /// The adapter's profile.
+    pub profile: Profile,
 }
 
 impl SidedRing {
     /// The receive ring, as the registers say.
     pub fn rx(machine: &Machine) -> SidedRing
-        ensures { result ≡ rx_ring (rx_setup machine.now.present.registers) }
+        ensures { result ≡ rx_ring machine.now.present.profile (rx_setup machine.now.present.registers) }
     {
         let setup = machine.ring_rx();
         SidedRing {
             side: Side::Receive(setup.buffer),
             setup: setup.ring(),
+            profile: machine.profile(),
         }
     }
 
     /// The transmit ring, as the registers say.
     pub fn tx(machine: &Machine) -> SidedRing
-        ensures { result ≡ tx_ring (tx_setup machine.now.present.registers) }
+        ensures { result ≡ tx_ring machine.now.present.profile (tx_setup machine.now.present.registers) }
     {
         SidedRing {
             side: Side::Transmit,
             setup: machine.ring_tx().ring(),
+            profile: machine.profile(),
         }
     }
 }

@@ -4,12 +4,13 @@ ghost use Rattle.std.specs.List.{range_with_len};
 ghost use Rattle.em_inspect.specs.Ring.{extent_of};
 ghost use Rattle.em_inspect.specs.Trouble.{buffer_trouble, claim_of, descriptor_in, format_trouble, is_extended};
 ghost use Rattle.em_inspect.specs.Trouble.{buffer_of, clash, is_live, is_over, is_posted_again, live_trouble};
-ghost use Rattle.em_inspect.specs.Trouble.{lowest_over, trouble_of};
+ghost use Rattle.em_inspect.specs.Trouble.{has_buffer, is_null, length_trouble, lowest_over, sent_trouble, trouble_of};
 
 use crate::descriptor::{Bits, Descriptor, Fields};
 use crate::extent::Extent;
 use crate::ring::{Owner, Side, SidedRing, is_adapters, owner_of};
 use em_journal::Machine;
+use em_regs::Profile;
 use em_rx::RxDescriptor;
 use em_tx::TxDescriptor;
 
@@ -72,8 +73,10 @@ impl SidedRing {
     fn live_trouble(&self, machine: &Machine, index: u32, fields: &Fields) -> Option<Trouble>
         ensures { result ≡ live_trouble self.now machine.now.present.base machine.now.present.memory index fields.now }
     {
-        match self.side.format_trouble(fields) {
+        let is_null = self.is_null(fields);
+        match self.side.format_trouble(is_null, fields) {
             Some(trouble) => Some(trouble),
+            None if is_null => None,
             None => self.buffer_trouble(machine, index, &self.side.buffer(fields)),
         }
     }
@@ -145,11 +148,27 @@ impl SidedRing {
         ensures { result ≡ claim_of self.now machine.now.present.base machine.now.present.memory index }
     {
         let fields = self.fields(machine, index)?;
-        if owner_of(&self.setup, index).is_live(&fields.bits) && !fields.bits.is_extended() {
+        if owner_of(&self.setup, index).is_live(&fields.bits) && self.has_buffer(&fields) {
             Some(self.side.buffer(&fields))
         } else {
             None
         }
+    }
+
+    /// Whether no octet goes into a descriptor's buffer or out of it, by its address: in the second profile by the
+    /// address 0.
+    #[tactic(auto, unfolding(em_rx::specs::Control::is_null_at))]
+    fn is_null(&self, fields: &Fields) -> bool
+        ensures { result ≡ is_null self.now fields.now }
+    {
+        matches!(self.profile, Profile::Adapter) && fields.buffer == 0
+    }
+
+    /// Whether a descriptor has a buffer.
+    fn has_buffer(&self, fields: &Fields) -> bool
+        ensures { result ≡ has_buffer self.now fields.now }
+    {
+        !fields.bits.is_extended() && !self.is_null(fields)
     }
 }
 
@@ -192,16 +211,37 @@ impl Side {
         }
     }
 
-    /// What is wrong with a descriptor but for where its buffer lies.
-    fn format_trouble(&self, fields: &Fields) -> Option<Trouble>
-        ensures { result ≡ format_trouble self.now fields.now }
+    /// What is wrong with a descriptor but for where its buffer lies, by whether it has none.
+    fn format_trouble(&self, is_null: bool, fields: &Fields) -> Option<Trouble>
+        ensures { result ≡ format_trouble self.now is_null fields.now }
     {
         match self {
             Side::Receive(_) => None,
-            Side::Transmit if fields.bits.is_extended() => Some(Trouble::Extended),
-            Side::Transmit if fields.length == 0 => Some(Trouble::NoLength),
-            Side::Transmit if fields.length > MOST_LENGTH => Some(Trouble::TooLong),
-            Side::Transmit => None,
+            Side::Transmit => sent_trouble(is_null, fields),
         }
+    }
+}
+
+/// What is wrong with the format of a transmit descriptor, and then with its length.
+fn sent_trouble(is_null: bool, fields: &Fields) -> Option<Trouble>
+    ensures { result ≡ sent_trouble is_null fields.now }
+{
+    if fields.bits.is_extended() {
+        return Some(Trouble::Extended);
+    }
+    if is_null {
+        return None;
+    }
+    length_trouble(fields.length)
+}
+
+/// What is wrong with the length of a transmit descriptor.
+fn length_trouble(length: u16) -> Option<Trouble>
+    ensures { result ≡ length_trouble length }
+{
+    match length {
+        0 => Some(Trouble::NoLength),
+        _ if length > MOST_LENGTH => Some(Trouble::TooLong),
+        _ => None,
     }
 }

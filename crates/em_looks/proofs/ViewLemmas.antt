@@ -3,7 +3,6 @@ use Rattle.std.proofs.Common.{◌≡◌, ◌∙◌, ℕ, List, ◌++◌, Option,
 use Rattle.std.specs.Prelude.{codes, unwrap_or}
 use Rattle.std.specs.Option.{option_map}
 use Rattle.em_regs.specs.declared.reg.Reg.{Reg}
-use Rattle.em_regs.specs.Storage.{Registers}
 use Rattle.em_regs.specs.Table.{offset_of, reg_of}
 use Rattle.em_step.specs.Access.{gives}
 use Rattle.em_step.specs.State.{State}
@@ -23,8 +22,8 @@ register_looked s reg offset value look at looked is =
     ap (λ (v : ℕ). names.register_text reg v ++ codes "\n") (sym same)
 
 -- the window of a ring
-pub window_of : (registers : Registers) (side : Side) (base : ℕ) (memory : List ℕ) (r : SidedRing) (from : ℕ)
-    → r ≡ ring_of registers side → from ≡ ring.shown_from r
-    → ring.ring_text r base memory from 64 ≡ window_text (ring_of registers side) base memory
-window_of registers side base memory r from is shown =
+pub window_of : (s : State) (side : Side) (base : ℕ) (memory : List ℕ) (r : SidedRing) (from : ℕ)
+    → r ≡ ring_of s side → from ≡ ring.shown_from r
+    → ring.ring_text r base memory from 64 ≡ window_text (ring_of s side) base memory
+window_of s side base memory r from is shown =
     ap (λ (n : ℕ). ring.ring_text r base memory n 64) shown ∙ ap (λ (q : SidedRing). window_text q base memory) is

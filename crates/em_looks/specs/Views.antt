@@ -1,10 +1,9 @@
 -- A register, a ring and guest memory, as text.
-use Rattle.std.specs.Prelude.{ℕ, ◌+◌, nat_lt, if◌then◌else◌, min, List, ◌++◌, codes, length, unwrap_or}
+use Rattle.std.specs.Prelude.{ℕ, if◌then◌else◌, min, List, ◌++◌, codes, unwrap_or}
 use Rattle.std.specs.Option.{option_map}
 use Rattle.em_mem.specs.Memory.{leaves, part}
 use Rattle.em_regs.specs.declared.reg.Reg.{Reg}
 use Rattle.em_regs.specs.Setup.{rx_setup, tx_setup}
-use Rattle.em_regs.specs.Storage.{Registers}
 use Rattle.em_regs.specs.Table.{offset_of, reg_of}
 use Rattle.em_step.specs.Access.{gives}
 use Rattle.em_step.specs.State.{State}
@@ -27,16 +26,16 @@ abbrev pub register_text : State → Reg → List ℕ
 register_text s reg = names.register_text reg (look_at s reg) ++ codes "\n"
 
 -- the ring of a side, as the registers say
-abbrev pub ring_of : Registers → Side → SidedRing
-ring_of registers Receive = rx_ring (rx_setup registers)
-ring_of registers Transmit = tx_ring (tx_setup registers)
+abbrev pub ring_of : State → Side → SidedRing
+ring_of s Receive = rx_ring s.profile (rx_setup s.registers)
+ring_of s Transmit = tx_ring s.profile (tx_setup s.registers)
 
 -- its 64 descriptors around the head
 abbrev pub window_text : SidedRing → ℕ → List ℕ → List ℕ
 window_text r base memory = ring.ring_text r base memory (ring.shown_from r) 64
 
 abbrev pub ring_text : State → Side → List ℕ
-ring_text s side = window_text (ring_of s.registers side) s.base s.memory
+ring_text s side = window_text (ring_of s side) s.base s.memory
 
 -- n octets of guest memory from an address on, if it has them
 abbrev pub octets_text : ℕ → List ℕ → ℕ → ℕ → List ℕ

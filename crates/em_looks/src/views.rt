@@ -38,7 +38,7 @@ pub fn show_ring<W: Write>(writer: &mut W, machine: &Machine, side: Side) -> Res
 
 /// The ring of a side, as the registers say.
 fn ring_of(machine: &Machine, side: Side) -> SidedRing
-    ensures { result ≡ ring_of machine.now.present.registers side }
+    ensures { result ≡ ring_of machine.now.present side }
 {
     match side {
         Side::Receive => SidedRing::rx(machine),

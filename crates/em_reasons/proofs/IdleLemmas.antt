@@ -10,6 +10,7 @@ use Rattle.em_regs.specs.declared.setup.TxSetup.{TxSetup}
 use Rattle.em_regs.specs.Setup.{rx_setup, tx_setup}
 use Rattle.em_rx.specs.Fifo.{Fifo}
 use Rattle.em_rx.specs.Receive as rx
+use Rattle.em_rx.specs.declared.control.RxControl.{RxControl}
 use Rattle.em_rx.specs.declared.step.RxAnswer.TheVariants as rx_answer
 use Rattle.em_rx.specs.declared.refusal.RxRefusal.TheVariants as rx_refusal
 use Rattle.em_tx.specs.Cells.{Shown}
@@ -25,7 +26,7 @@ use Rattle.em_tx.specs.declared.control.TxControl.{TxControl}
 use Rattle.em_tx.specs.declared.refusal.TxRefusal.{TxRefusal}
 use Rattle.em_tx.specs.declared.refusal.TxRefusal.TheVariants as tx_refusal
 use Rattle.em_tx.proofs.EngineLaws.{transmit-idle}
-use Rattle.em_step.specs.Engines.{after_tx_answer, is_halted, rx_stepped, sending, tx_control, tx_stepped, with_shown}
+use Rattle.em_step.specs.Engines.{after_tx_answer, is_halted, rx_control, rx_stepped, sending, tx_control, tx_stepped, with_shown}
 use Rattle.em_step.specs.State.{State}
 use Rattle.em_step.specs.declared.event.Answer.{Answer}
 use Rattle.em_step.specs.declared.event.Answer.TheVariants.{Idle, Wrote, Fetched, Sent}
@@ -54,8 +55,10 @@ six true false false false true n r1 r2 r3 r4 r5 r6 less = refl
 six true false false false false true r1 r2 r3 r4 r5 r6 less = refl
 six true false false false false false r1 r2 r3 r4 r5 r6 less = refl
 
-pub rx_tests : (q : RxSetup) (fifo : Fifo) → is_some (first_of (rx_idle_table q (length fifo.frames))) ≡ rx.is_idle q fifo
-rx_tests q fifo =
+pub rx_tests : (c : RxControl) (fifo : Fifo)
+    → is_some (first_of (rx_idle_table c.setup (length fifo.frames))) ≡ rx.is_idle c fifo
+rx_tests c fifo =
+    let q : RxSetup = c.setup in
     six q.enabled (q.count == 0) (nat_le q.count q.head) (nat_le q.count q.tail) (q.head == q.tail)
     (length fifo.frames == 0) _ _ _ _ _ _ (none_within q.count q.head)
 
@@ -68,7 +71,7 @@ answer_in a b s t h =
     let pairs : Path (Answer × State) (a, s) (b, t) = cc in ap (λ (r : Answer × State). r.0) pairs
 
 -- a step that comes out of three tests is idle where the first holds
-rx_out : (s : State) (q : RxSetup) (idle a b : Bool)
+rx_out : (s : State) (q : RxControl) (idle a b : Bool)
     → (idle ≡ true)
     ↔ (rx_stepped s (if idle then Ok (record { answer = rx_answer.Idle; memory = s.memory; fifo = s.fifo })
     else if a then Err rx_refusal.DmaRange
@@ -77,11 +80,11 @@ rx_out : (s : State) (q : RxSetup) (idle a b : Bool)
 rx_out s q true a b = (λ h. refl, λ h. refl)
 rx_out s q false true b = (λ h. cc, λ h. cc)
 rx_out s q false false true = (λ h. cc, λ h. cc)
-rx_out s q false false false = (λ h. cc, λ h. let same : Wrote q.head ≡ Idle = answer_in _ _ _ _ h in cc)
+rx_out s q false false false = (λ h. cc, λ h. let same : Wrote q.setup.head ≡ Idle = answer_in _ _ _ _ h in cc)
 
 pub rx_idle_where : (s : State) (o : Option RxIdle) → o ≡ rx_idle s → IsSome o ↔ IsIdleReceiving s
 rx_idle_where s o is =
-    let q = rx_setup s.registers in
+    let q = rx_control s in
     let same : is_some o ≡ rx.is_idle q s.fifo = ap is_some is ∙ rx_tests q s.fifo in
     let steps = rx_out s q (rx.is_idle q s.fifo) _ _ in
     (λ h. steps.0 (sym same ∙ h), λ h. same ∙ steps.1 h)

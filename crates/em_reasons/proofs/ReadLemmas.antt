@@ -7,6 +7,7 @@ use Rattle.byteorder.specs.Endian.{little_from}
 use Rattle.em_regs.specs.declared.profile.Profile.{Profile}
 use Rattle.em_regs.specs.declared.profile.Profile.TheVariants.{Table, Adapter}
 use Rattle.em_regs.specs.Setup.{bit}
+use Rattle.em_rx.specs.Control.{is_null_at}
 use Rattle.em_tx.specs.Control.{as_read, without_octets}
 use Rattle.em_tx.specs.Descriptor.{address, dext, length_of}
 
@@ -81,6 +82,16 @@ length_alike p d e at long =
     ∙ ap (λ (a : ℕ). read_length p a (length_of d)) at
     ∙ ap (λ (n : ℕ). read_length p (address e) n) long
     ∙ sym (length_read p e)
+
+read_by_null : (p : Profile) (a n : ℕ) → read_length p a n ≡ (if is_null_at p a then 0 else n)
+unfolding is_null_at
+read_by_null Table a n = refl
+read_by_null Adapter a n = refl
+
+-- it has no octets, or as many as it says
+pub length_by_null : (p : Profile) (d : List ℕ)
+    → length_of (as_read p d) ≡ (if is_null_at p (address d) then 0 else length_of d)
+length_by_null p d = length_read p d ∙ read_by_null p (address d) (length_of d)
 
 -- the first profile reads it as it lies there
 pub read_plainly : (d : List ℕ) → as_read Table d ≡ d

@@ -15,6 +15,8 @@ use Rattle.em_regs.specs.Table.{answers_at, reg_of}
 use Rattle.em_rx.specs.Descriptor.{descriptor_of}
 use Rattle.em_rx.specs.Fifo.{Fifo, first}
 use Rattle.em_rx.specs.Receive as rx
+use Rattle.em_rx.specs.Control.{of_setup}
+use Rattle.em_rx.specs.declared.control.RxControl.{RxControl}
 use Rattle.em_rx.specs.declared.step.RxAnswer.TheVariants as rx_answer
 use Rattle.em_rx.specs.declared.refusal.RxRefusal.TheVariants as rx_refusal
 use Rattle.em_tx.specs.Cells.{Shown}
@@ -25,7 +27,7 @@ use Rattle.em_tx.specs.Ring as tx
 use Rattle.em_tx.specs.declared.answer.TxAnswer.{TxAnswer}
 use Rattle.em_tx.specs.declared.answer.TxAnswer.TheVariants as tx_answer
 use Rattle.em_tx.specs.declared.refusal.TxRefusal.TheVariants as tx_refusal
-use Rattle.em_step.specs.Engines.{rx_stepped, sending, tx_control, tx_stepped}
+use Rattle.em_step.specs.Engines.{rx_control, rx_stepped, sending, tx_control, tx_stepped}
 use Rattle.em_step.specs.Event.{Event, reads, writes, pokes, arrives, links, receives, transmits}
 use Rattle.em_step.specs.State.{State}
 use Rattle.em_step.specs.Step.{at_register, step}
@@ -70,7 +72,7 @@ of_frame : (length : Bool) (n : ℕ) (r : Answer × State)
 of_frame true n r = refl
 of_frame false n r = refl
 
-of_receive : (s : State) (q : RxSetup) (idle outside buffer : Bool) (d b : Refused) → refusal_of d ≡ refusal.DmaRange
+of_receive : (s : State) (q : RxControl) (idle outside buffer : Bool) (d b : Refused) → refusal_of d ≡ refusal.DmaRange
     → refusal_of b ≡ refusal.DmaRange
     → said (unless_idle idle ((outside, d) ∷ (buffer, b) ∷ []))
     ≡ refusal_in (rx_stepped s (if idle then Ok (record { answer = rx_answer.Idle; memory = s.memory; fifo = s.fifo })
@@ -113,9 +115,9 @@ refusal_said s (pokes a octets) =
 refusal_said s (arrives f) = of_frame (nat_lt (length f) 14 || nat_lt 20_000 (length f)) (length f) _
 refusal_said s (links up) = refl
 refusal_said s receives =
-    let q = rx_setup s.registers in
+    let q = rx_control s in
     of_receive s q (rx.is_idle q s.fifo) (leaves s.base s.memory (rx.descriptor_at q) 16)
-    (leaves s.base s.memory (rx.buffer_at q s.memory) (rx.count_of q s.fifo)) _ _ refl refl
+    (rx.is_outside q s.base s.memory s.fifo) _ _ refl refl
 refusal_said s transmits =
     let q = tx_setup s.registers in
     let d = tx_octets s.profile q s.memory in
@@ -200,10 +202,10 @@ pub receive_refused : (s : State) (r : Refusal) (d : Refused)
     → d ≡ refused_receive (rx_setup s.registers) s.base s.memory s.fifo → step s receives ≡ Err r
     → why s receives ≡ Some d
 receive_refused s r d is h =
-    let q = rx_setup s.registers in
+    let q = rx_control s in
     two_busy (rx.is_idle q s.fifo) (leaves s.base s.memory (rx.descriptor_at q) 16)
-    (leaves s.base s.memory (rx.buffer_at q s.memory) (rx.count_of q s.fifo))
-    (RxDescriptor q.head (rx.descriptor_at q) (bounds_of s)) (rx_buffer q s.base s.memory s.fifo) r
+    (rx.is_outside q s.base s.memory s.fifo)
+    (RxDescriptor q.setup.head (rx.descriptor_at q) (bounds_of s)) (rx_buffer q.setup s.base s.memory s.fifo) r
     (said_of s receives r h)
     ∙ ap Some (sym is)
 
@@ -265,7 +267,7 @@ tables_lack s (pokes a octets) = (λ h. cc, (λ h. cc, tt))
 tables_lack s (arrives f) = (λ h. cc, tt)
 tables_lack s (links up) = tt
 tables_lack s receives =
-    let q = rx_setup s.registers in
+    let q = rx_control s in
     lacks_busy (rx.is_idle q s.fifo) (rx_table q s.base s.memory s.fifo) (λ h. cc, (λ h. cc, tt))
 tables_lack s transmits =
     let q = tx_setup s.registers in
@@ -308,10 +310,10 @@ pub receive_outside : (p q : RxSetup) (base : ℕ) (memory : List ℕ) (fifo : F
     → None ≡ octets_at (rx_ring p) base memory p.head → place ≡ p.base + 16 * p.head → lies_in ≡ bounds base memory
     → RxDescriptor p.head place lies_in ≡ refused_receive q base memory fifo
 receive_outside p q base memory fifo place lies_in same none at lies =
-    let test : leaves base memory (rx.descriptor_at p) 16 ≡ true = outside _ _ none in
+    let test : leaves base memory (rx.descriptor_at (of_setup p)) 16 ≡ true = outside _ _ none in
     ap (λ (n : ℕ). RxDescriptor p.head n lies_in) at
-    ∙ ap (λ (b : Bounds). RxDescriptor p.head (rx.descriptor_at p) b) lies
-    ∙ sym (ap (λ (b : Bool). if b then RxDescriptor p.head (rx.descriptor_at p) (bounds base memory)
+    ∙ ap (λ (b : Bounds). RxDescriptor p.head (rx.descriptor_at (of_setup p)) b) lies
+    ∙ sym (ap (λ (b : Bool). if b then RxDescriptor p.head (rx.descriptor_at (of_setup p)) (bounds base memory)
     else rx_buffer p base memory fifo) test)
     ∙ ap (λ (r : RxSetup). refused_receive r base memory fifo) same
 
@@ -321,15 +323,15 @@ pub receive_inside : (p q : RxSetup) (base : ℕ) (memory octets : List ℕ) (fi
     → buffer ≡ (descriptor_of octets).address → n ≡ length (first fifo).octets → lies_in ≡ bounds base memory
     → RxBuffer p.head place buffer p.buffer n lies_in ≡ refused_receive q base memory fifo
 receive_inside p q base memory octets fifo place buffer n lies_in same some at address frame lies =
-    let there = part memory (rx.descriptor_at p) 16 in
-    let found = inside (leaves base memory (rx.descriptor_at p) 16) there octets some in
+    let there = part memory (rx.descriptor_at (of_setup p)) 16 in
+    let found = inside (leaves base memory (rx.descriptor_at (of_setup p)) 16) there octets some in
     ap (λ (k : ℕ). RxBuffer p.head k buffer p.buffer n lies_in) at
-    ∙ ap (λ (k : ℕ). RxBuffer p.head (rx.descriptor_at p) k p.buffer n lies_in)
+    ∙ ap (λ (k : ℕ). RxBuffer p.head (rx.descriptor_at (of_setup p)) k p.buffer n lies_in)
     (address ∙ ap (λ (l : List ℕ). (descriptor_of l).address) found.1)
-    ∙ ap (λ (k : ℕ). RxBuffer p.head (rx.descriptor_at p) (rx.buffer_at p memory) p.buffer k lies_in) frame
+    ∙ ap (λ (k : ℕ). RxBuffer p.head (rx.descriptor_at (of_setup p)) (rx.buffer_at (of_setup p) memory) p.buffer k lies_in) frame
     ∙ ap (λ (b : Bounds).
-    RxBuffer p.head (rx.descriptor_at p) (rx.buffer_at p memory) p.buffer (length (first fifo).octets) b) lies
-    ∙ sym (ap (λ (b : Bool). if b then RxDescriptor p.head (rx.descriptor_at p) (bounds base memory)
+    RxBuffer p.head (rx.descriptor_at (of_setup p)) (rx.buffer_at (of_setup p) memory) p.buffer (length (first fifo).octets) b) lies
+    ∙ sym (ap (λ (b : Bool). if b then RxDescriptor p.head (rx.descriptor_at (of_setup p)) (bounds base memory)
     else rx_buffer p base memory fifo) found.0)
     ∙ ap (λ (r : RxSetup). refused_receive r base memory fifo) same
 

@@ -13,10 +13,11 @@ use Rattle.em_regs.specs.declared.profile.Profile.TheVariants.{Table, Adapter}
 use Rattle.em_regs.specs.Setup.{bit, buffer_size, has, rx_setup, tx_setup}
 use Rattle.em_rx.specs.Fifo.{Fifo, first, rest}
 use Rattle.em_rx.specs.Receive as rx
+use Rattle.em_rx.specs.Control.{is_null_at}
 use Rattle.em_tx.specs.Control.{as_read, is_over, is_still}
 use Rattle.em_tx.specs.Descriptor.{address, dext, length_of}
 use Rattle.em_tx.specs.Ring as tx
-use Rattle.em_step.specs.Engines.{is_halted, tx_control}
+use Rattle.em_step.specs.Engines.{is_halted, rx_control, tx_control}
 use Rattle.em_step.specs.Event.{Event, reads, writes, pokes, arrives, links, receives, transmits}
 use Rattle.em_step.specs.State.{State}
 use Rattle.em_step.specs.Step.{step}
@@ -96,7 +97,7 @@ place_is {l = l} {m = m} {h = h} {g = g} {i = i} {j = j} low high index =
     ∙ ap (λ (v : ℕ). g * 2 ^ 32 + m + 16 * v) index
 
 rx_at : (s t : State) → SameLooks s t rx_place
-    → rx.descriptor_at (rx_setup t.registers) ≡ rx.descriptor_at (rx_setup s.registers)
+    → rx.descriptor_at (rx_control t) ≡ rx.descriptor_at (rx_control s)
 rx_at s t looks = place_is looks.0 looks.1.0 looks.1.1.0
 
 tx_at : (s t : State) → SameLooks s t tx_place
@@ -129,8 +130,8 @@ busy false rows h = refl
 none_is : {A : Type 0} (o : Option A) (b : Bool) → o ≡ None → is_some o ≡ b → b ≡ false
 none_is o b none is = sym is ∙ ap is_some none
 
-pub rx_busy : (t : State) → IsBusy t receives → rx.is_idle (rx_setup t.registers) t.fifo ≡ false
-rx_busy t is = none_is _ _ is (rx_tests (rx_setup t.registers) t.fifo)
+pub rx_busy : (t : State) → IsBusy t receives → rx.is_idle (rx_control t) t.fifo ≡ false
+rx_busy t is = none_is _ _ is (rx_tests (rx_control t) t.fifo)
 
 pub tx_busy : (t : State) → IsBusy t transmits → is_still (tx_control t) ≡ false
 tx_busy t is = none_is _ _ is (tx_tests (tx_setup t.registers) (is_halted t))
@@ -139,9 +140,9 @@ tx_busy t is = none_is _ _ is (tx_tests (tx_setup t.registers) (is_halted t))
 abbrev rx_first : Bounds → ℕ → ℕ → Row
 rx_first size head place = (is_past size place 16, RxDescriptor head place size)
 
-abbrev rx_second : Bounds → ℕ → ℕ → ℕ → ℕ → ℕ → ℕ → Row
-rx_second size head place buffer room count n =
-    (is_past size buffer count, RxBuffer head place buffer room n size)
+abbrev rx_second : Bounds → ℕ → ℕ → ℕ → ℕ → ℕ → ℕ → ℕ → Row
+rx_second size head place buffer room goes count n =
+    (is_past size goes count, RxBuffer head place buffer room n size)
 
 -- the first row is the same where these numbers are
 abbrev behind : Row → List Row → Option Refused
@@ -172,60 +173,70 @@ buffer_bits x y same =
     ap (λ (b : Bool). size b (x / 2 ^ 16 % 4)) (has_same 0x0200_0000 x y (bits_within 0x0200_0000 0x0203_0000 x y refl same))
     ∙ ap (size (has y 0x0200_0000)) (field_same 2 16 x y (bits_within 0x0003_0000 0x0203_0000 x y refl same))
 
-rx_all : {size z : Bounds} {head place buffer room count n h p b r c k : ℕ} → z ≡ size → h ≡ head → p ≡ place → b ≡ buffer
-    → r ≡ room → c ≡ count → k ≡ n
-    → behind (rx_first z h p) (rx_second z h p b r c k ∷ [])
-    ≡ behind (rx_first size head place) (rx_second size head place buffer room count n ∷ [])
-rx_all same index at address size count frame = rw (same, index, at, address, size, count, frame) refl
+rx_all : {size z : Bounds} {head place buffer room goes count n h p b r g c k : ℕ} → z ≡ size → h ≡ head → p ≡ place
+    → b ≡ buffer → r ≡ room → g ≡ goes → c ≡ count → k ≡ n
+    → behind (rx_first z h p) (rx_second z h p b r g c k ∷ [])
+    ≡ behind (rx_first size head place) (rx_second size head place buffer room goes count n ∷ [])
+rx_all same index at address size goes count frame = rw (same, index, at, address, size, goes, count, frame) refl
 
 buffer_same : (s t : State) → SameLooks s t rx_place
-    → part t.memory (rx.descriptor_at (rx_setup s.registers) + 0) 8
-    ≡ part s.memory (rx.descriptor_at (rx_setup s.registers) + 0) 8
-    → rx.buffer_at (rx_setup t.registers) t.memory ≡ rx.buffer_at (rx_setup s.registers) s.memory
+    → part t.memory (rx.descriptor_at (rx_control s) + 0) 8
+    ≡ part s.memory (rx.descriptor_at (rx_control s) + 0) 8
+    → rx.buffer_at (rx_control t) t.memory ≡ rx.buffer_at (rx_control s) s.memory
 buffer_same s t looks octets =
     ap (λ (a : ℕ). little_number 8 (part t.memory a 16)) (rx_at s t looks)
-    ∙ number_at_start s.memory t.memory (rx.descriptor_at (rx_setup s.registers)) 8 (omega arith) (omega arith) octets
+    ∙ number_at_start s.memory t.memory (rx.descriptor_at (rx_control s)) 8 (omega arith) (omega arith) octets
 
 abbrev rx_rows : State → List Row
-rx_rows s = rx_table (rx_setup s.registers) s.base s.memory s.fifo
+rx_rows s = rx_table (rx_control s) s.base s.memory s.fifo
 
 rx_descriptor : (s t : State) → bounds_of t ≡ bounds_of s → SameLooks s t rx_place → (r : Refused)
-    → leaves s.base s.memory (rx.descriptor_at (rx_setup s.registers)) 16 ≡ true
+    → leaves s.base s.memory (rx.descriptor_at (rx_control s)) 16 ≡ true
     → first_of (rx_rows s) ≡ Some r → first_of (rx_rows t) ≡ Some r
 rx_descriptor s t size looks r holds found =
     rx_first_same (drop 1 (rx_rows t)) size (rx_at s t looks) looks.1.1.0
-    ∙ decides (rx_first (bounds_of s) (rx_setup s.registers).head (rx.descriptor_at (rx_setup s.registers)))
+    ∙ decides (rx_first (bounds_of s) (rx_setup s.registers).head (rx.descriptor_at (rx_control s)))
     (drop 1 (rx_rows t)) (drop 1 (rx_rows s)) holds
     ∙ found
 
-rx_buffer_out : (s t : State) → bounds_of t ≡ bounds_of s → (r : Refused)
-    → SameLooks s t (refused_looks (RxBuffer (rx_setup s.registers).head (rx.descriptor_at (rx_setup s.registers))
-    (rx.buffer_at (rx_setup s.registers) s.memory) (rx_setup s.registers).buffer (length (first s.fifo).octets)
+rx_buffer_out : (s t : State) → t.profile ≡ s.profile → bounds_of t ≡ bounds_of s → (r : Refused)
+    → SameLooks s t (refused_looks (RxBuffer (rx_setup s.registers).head (rx.descriptor_at (rx_control s))
+    (rx.buffer_at (rx_control s) s.memory) (rx_setup s.registers).buffer (length (first s.fifo).octets)
     (bounds_of s)))
     → first_of (rx_rows s) ≡ Some r → first_of (rx_rows t) ≡ Some r
-rx_buffer_out s t size r looks found =
+rx_buffer_out s t profile size r looks found =
     let room = buffer_bits _ _ looks.1.0 in
     let fifo = looks.1.1.0 in
     let place = looks.1.1.1 in
-    let count : rx.count_of (rx_setup t.registers) t.fifo ≡ rx.count_of (rx_setup s.registers) s.fifo
-    = ap (λ (v : ℕ). min v (rest t.fifo)) room ∙ ap (λ (f : Fifo). min (rx_setup s.registers).buffer (rest f)) fifo in
-    rx_all size place.1.1.0 (rx_at s t place) (buffer_same s t place looks.0) room count
+    let at = rx_at s t place in
+    let buffer = buffer_same s t place looks.0 in
+    let null : rx.is_null (rx_control t) (rx.descriptor (rx_control t) t.memory)
+    ≡ rx.is_null (rx_control s) (rx.descriptor (rx_control s) s.memory)
+    = λ i. is_null_at (profile i) (buffer i) in
+    let goes : rx.place_of (rx_control t) (rx.descriptor (rx_control t) t.memory)
+    ≡ rx.place_of (rx_control s) (rx.descriptor (rx_control s) s.memory)
+    = λ i. if null i then at i else buffer i in
+    let count : rx.count_of (rx_control t) (rx.descriptor (rx_control t) t.memory) t.fifo
+    ≡ rx.count_of (rx_control s) (rx.descriptor (rx_control s) s.memory) s.fifo
+    = λ i. if null i then 0 else min (room i) (rest (fifo i)) in
+    rx_all size place.1.1.0 at buffer room goes count
     (ap (λ (f : Fifo). length (first f).octets) fifo)
     ∙ found
 
 looks_as : (s t : State) (x r : Refused) → x ≡ r → SameLooks s t (refused_looks r) → SameLooks s t (refused_looks x)
 looks_as s t x r same = subst (λ (y : Refused). SameLooks s t (refused_looks y)) (sym same)
 
-stay_receiving : (s t : State) (r : Refused) → why s receives ≡ Some r → SameLooks s t (refused_looks r)
+stay_receiving : (s t : State) (r : Refused) → t.profile ≡ s.profile → why s receives ≡ Some r
+    → SameLooks s t (refused_looks r)
     → bounds_of t ≡ bounds_of s → IsBusy t receives → why t receives ≡ Some r
-stay_receiving s t r is looks size runs =
-    let q = rx_setup s.registers in
+stay_receiving s t r profile is looks size runs =
+    let q = rx_control s in
     let found = not_idle (rx.is_idle q s.fifo) (rx_rows s) r is in
-    busy (rx.is_idle (rx_setup t.registers) t.fifo) (rx_rows t) (rx_busy t runs)
+    busy (rx.is_idle (rx_control t) t.fifo) (rx_rows t) (rx_busy t runs)
     ∙ elim (by_first (leaves s.base s.memory (rx.descriptor_at q) 16) _ r _ found) [
       | inl here ↦ rx_descriptor s t size (looks_as s t _ r here.1 looks) r here.0 found
-      | inr later ↦ elim (by_first (leaves s.base s.memory (rx.buffer_at q s.memory) (rx.count_of q s.fifo)) _ r _ later.1) [
-        | inl here ↦ rx_buffer_out s t size r (looks_as s t _ r here.1 looks) found
+      | inr later ↦ elim (by_first (rx.is_outside q s.base s.memory s.fifo) _ r _ later.1) [
+        | inl here ↦ rx_buffer_out s t profile size r (looks_as s t _ r here.1 looks) found
         | inr none ↦ let no = none.1 in cc
       ]
     ]
@@ -466,7 +477,7 @@ stays_refused_so s t (pokes a octets) r is looks before profile size earlier run
     ap (λ (v : Bounds). first_of (write_table v a (length octets))) size ∙ is
 stays_refused_so s t (arrives f) r is looks before profile size earlier runs = is
 stays_refused_so s t (links up) r is looks before profile size earlier runs = cc
-stays_refused_so s t receives r is looks before profile size earlier runs = stay_receiving s t r is looks size runs
+stays_refused_so s t receives r is looks before profile size earlier runs = stay_receiving s t r profile is looks size runs
 stays_refused_so s t transmits r is looks before profile size earlier runs =
     stay_transmitting s t r is looks before profile size earlier runs
 
@@ -546,7 +557,7 @@ keeps s t (pokes a octets) r is looks profile size earlier runs =
     ap is_some (ap (λ (v : Bounds). first_of (write_table v a (length octets))) size ∙ is)
 keeps s t (arrives f) r is looks profile size earlier runs = ap is_some is
 keeps s t (links up) r is looks profile size earlier runs = cc
-keeps s t receives r is looks profile size earlier runs = ap is_some (stay_receiving s t r is looks size runs)
+keeps s t receives r is looks profile size earlier runs = ap is_some (stay_receiving s t r profile is looks size runs)
 keeps s t transmits r is looks profile size earlier runs =
     keep_transmitting s t r is looks profile size earlier runs
 

@@ -5,16 +5,18 @@ use Rattle.std.specs.Prelude.{if◌then◌else◌}
 use Rattle.em_mem.specs.Memory.{leaves, part}
 use Rattle.em_regs.specs.declared.setup.RxSetup.{RxSetup}
 use Rattle.em_regs.specs.declared.setup.TxSetup.{TxSetup}
-use Rattle.em_regs.specs.Setup.{rx_setup, tx_setup}
+use Rattle.em_regs.specs.Setup.{tx_setup}
 use Rattle.em_regs.specs.declared.profile.Profile.{Profile}
 use Rattle.em_regs.specs.declared.profile.Profile.TheVariants.{Table, Adapter}
 use Rattle.em_regs.specs.Table.{answers_at, reg_of}
 use Rattle.em_rx.specs.Fifo.{Fifo, first}
 use Rattle.em_rx.specs.Receive as rx
+use Rattle.em_rx.specs.Control.{of_setup}
+use Rattle.em_rx.specs.declared.control.RxControl.{RxControl}
 use Rattle.em_tx.specs.Control.{as_read, is_over, is_still}
 use Rattle.em_tx.specs.Descriptor.{address, dext, length_of}
 use Rattle.em_tx.specs.Ring as tx
-use Rattle.em_step.specs.Engines.{tx_control}
+use Rattle.em_step.specs.Engines.{rx_control, tx_control}
 use Rattle.em_step.specs.Event.{Event, reads, writes, pokes, arrives, links, receives, transmits}
 use Rattle.em_step.specs.State.{State}
 use Rattle.em_step.specs.declared.refusal.Refusal.{Refusal}
@@ -65,14 +67,14 @@ frame_table n = (nat_lt n 14 || nat_lt 20_000 n, FrameLength n) ∷ []
 -- the descriptor at RDH, which lies there, and where its buffer lies
 abbrev pub rx_buffer : RxSetup → ℕ → List ℕ → Fifo → Refused
 rx_buffer q base memory fifo =
-    RxBuffer q.head (rx.descriptor_at q) (rx.buffer_at q memory) q.buffer (length (first fifo).octets)
-    (bounds base memory)
+    RxBuffer q.head (rx.descriptor_at (of_setup q)) (rx.buffer_at (of_setup q) memory) q.buffer
+    (length (first fifo).octets) (bounds base memory)
 
 -- of a receive step that is not idle: the descriptor leaves memory, and then what is to go into its buffer
-abbrev pub rx_table : RxSetup → ℕ → List ℕ → Fifo → List (Bool × Refused)
+abbrev pub rx_table : RxControl → ℕ → List ℕ → Fifo → List (Bool × Refused)
 rx_table q base memory fifo =
-    (leaves base memory (rx.descriptor_at q) 16, RxDescriptor q.head (rx.descriptor_at q) (bounds base memory))
-    ∷ (leaves base memory (rx.buffer_at q memory) (rx.count_of q fifo), rx_buffer q base memory fifo)
+    (leaves base memory (rx.descriptor_at q) 16, RxDescriptor q.setup.head (rx.descriptor_at q) (bounds base memory))
+    ∷ (rx.is_outside q base memory fifo, rx_buffer q.setup base memory fifo)
     ∷ []
 
 -- the octets of the descriptor at TDH, as the profile reads it
@@ -113,7 +115,7 @@ refusal_table s (pokes a octets) = write_table (bounds_of s) a (length octets)
 refusal_table s (arrives f) = frame_table (length f)
 refusal_table s (links up) = []
 refusal_table s receives =
-    let q = rx_setup s.registers in unless_idle (rx.is_idle q s.fifo) (rx_table q s.base s.memory s.fifo)
+    let q = rx_control s in unless_idle (rx.is_idle q s.fifo) (rx_table q s.base s.memory s.fifo)
 refusal_table s transmits =
     let q = tx_setup s.registers in
     unless_idle (is_still (tx_control s))
@@ -150,8 +152,8 @@ refused_write memory a n = if is_past memory a n then Range a n memory else Writ
 
 abbrev pub refused_receive : RxSetup → ℕ → List ℕ → Fifo → Refused
 refused_receive q base memory fifo =
-    if leaves base memory (rx.descriptor_at q) 16 then RxDescriptor q.head (rx.descriptor_at q) (bounds base memory)
-    else rx_buffer q base memory fifo
+    let at : ℕ = rx.descriptor_at (of_setup q) in
+    if leaves base memory at 16 then RxDescriptor q.head at (bounds base memory) else rx_buffer q base memory fifo
 
 abbrev pub refused_descriptor : Refusal → Profile → TxSetup → Bounds → List ℕ → Refused
 refused_descriptor refusal.Extended p q memory d = Extended q.head (tx.place q)

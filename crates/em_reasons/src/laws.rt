@@ -14,7 +14,7 @@ ghost use Rattle.em_reasons.specs.declared.rx_idle.RxIdle.{RxIdle};
 ghost use Rattle.em_reasons.specs.declared.tx_idle.TxIdle.{TxIdle};
 ghost use Rattle.em_reasons.specs.Dropped.{IsDropped, reason_of, why};
 ghost use Rattle.em_reasons.specs.Refused as refused;
-ghost use Rattle.em_reasons.specs.Foretold.{FillsBuffer, IsLongAlone, IsReadPlainly, foretold, refusal_in, rx_trouble};
+ghost use Rattle.em_reasons.specs.Foretold.{FillsBuffer, HasFew, IsLongAlone, foretold, refusal_in, rx_trouble};
 ghost use Rattle.em_reasons.specs.Foretold.{tx_trouble};
 ghost use Rattle.em_reasons.specs.Looks.{dropped_looks, looks_before, refused_looks, rx_idle_looks, tx_idle_looks};
 ghost use Rattle.em_reasons.specs.RxIdle.{IsIdleReceiving, rx_idle};
@@ -88,12 +88,11 @@ pub fn refused_events_stay_refused()
 ///   first frame still has, up to the buffer's size;
 /// - that a length is above 16,380. It speaks of the descriptor alone; the transmit engine adds what is gathered.
 ///
-/// It does not know what the second profile adds: a descriptor with the address 0 has no octets there, and one has at most
-/// 16,288.
+/// It does not know that in the second profile a transmit descriptor has at most 16,288 octets.
 pub fn troubles_are_refused()
     ensures receives { (s : State) → refused.IsBusy s receives →
         (rx_trouble s ≡ Some Trouble.BufferOutside → FillsBuffer s) →
         refusal_in (step s receives) ≡ foretold (rx_trouble s) }
-    ensures transmits { (s : State) → refused.IsBusy s transmits → IsLongAlone s → IsReadPlainly s →
+    ensures transmits { (s : State) → refused.IsBusy s transmits → IsLongAlone s → HasFew s →
         refusal_in (step s transmits) ≡ foretold (tx_trouble s) }
 {}

@@ -22,9 +22,6 @@ const LENGTH: u32 = 0x000F_FF80;
 /// The bits of RCTL by which a MAC control frame passes: UPE, MPE, MO, BAM and PMCF.
 const CONTROL_BITS: u32 = 0x0080_B018;
 
-/// RCTL.LBM.
-const LBM: u32 = 0x0000_00C0;
-
 /// What of a descriptor decides: its buffer's address, with the length behind it, that length, and CMD.
 const ADDRESS_OCTETS: u32 = 8;
 
@@ -104,7 +101,10 @@ impl TxIdle {
             ),
             TxIdle::LinkDown => Vec::from_slice(
                 alloc,
-                &[bits(Reg::Status, Status::LU.bits()), bits(Reg::Rctl, LBM)],
+                &[
+                    bits(Reg::Status, Status::LU.bits()),
+                    bits(Reg::Rctl, Rctl::LBM.bits()),
+                ],
             ),
         }
     }

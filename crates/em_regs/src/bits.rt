@@ -163,8 +163,8 @@ impl Flags for Causes {
 
 /// RCTL, the receive control register (manual, chapter on register descriptions).
 ///
-/// RDMTS, MO and BSIZE are fields of two bits. SBP, CFIEN, CFI, DPF, PMCF and SECRC act in the second profile alone.
-/// Other bits are stored and have no effect.
+/// LBM, RDMTS, MO and BSIZE are fields of two bits. LBM, SBP, CFIEN, CFI, DPF, PMCF and SECRC act in the second
+/// profile alone. Other bits are stored and have no effect.
 #[derive(Clone, Copy, PartialEq, Eq, Debug)]
 pub struct Rctl(u32);
 
@@ -175,6 +175,7 @@ bitflag_items! {
         const UPE = 0x0000_0008;
         const MPE = 0x0000_0010;
         const LPE = 0x0000_0020;
+        const LBM = 0x0000_00C0;
         const RDMTS = 0x0000_0300;
         const MO = 0x0000_3000;
         const BAM = 0x0000_8000;
@@ -195,10 +196,11 @@ impl Flags for Rctl {
     ghost exact = { ⊤ };
 
     ghost table = { (codes "EN", 0x0000_0002) ∷ (codes "SBP", 0x0000_0004) ∷ (codes "UPE", 0x0000_0008) ∷
-        (codes "MPE", 0x0000_0010) ∷ (codes "LPE", 0x0000_0020) ∷ (codes "RDMTS", 0x0000_0300) ∷
-        (codes "MO", 0x0000_3000) ∷ (codes "BAM", 0x0000_8000) ∷ (codes "BSIZE", 0x0003_0000) ∷ (codes "VFE", 0x0004_0000) ∷
-        (codes "CFIEN", 0x0008_0000) ∷ (codes "CFI", 0x0010_0000) ∷ (codes "DPF", 0x0040_0000) ∷
-        (codes "PMCF", 0x0080_0000) ∷ (codes "BSEX", 0x0200_0000) ∷ (codes "SECRC", 0x0400_0000) ∷ [] };
+        (codes "MPE", 0x0000_0010) ∷ (codes "LPE", 0x0000_0020) ∷ (codes "LBM", 0x0000_00C0) ∷
+        (codes "RDMTS", 0x0000_0300) ∷ (codes "MO", 0x0000_3000) ∷ (codes "BAM", 0x0000_8000) ∷
+        (codes "BSIZE", 0x0003_0000) ∷ (codes "VFE", 0x0004_0000) ∷ (codes "CFIEN", 0x0008_0000) ∷
+        (codes "CFI", 0x0010_0000) ∷ (codes "DPF", 0x0040_0000) ∷ (codes "PMCF", 0x0080_0000) ∷
+        (codes "BSEX", 0x0200_0000) ∷ (codes "SECRC", 0x0400_0000) ∷ [] };
 
     ghost set_of = { λ rctl. rctl.0 };
 

@@ -99,7 +99,7 @@ impl RegFile {
     pub fn ring_rx(&self) -> RxSetup
         ensures setup { result ≡ rx_setup self.now }
         ensures count { result.count < 2 ^ 28 }
-        ensures some { 0 < result.buffer }
+        ensures some { 256 ≤ result.buffer }
         ensures buffer { result.buffer ≤ 16_384 }
     {
         let rctl = self.look(Reg::Rctl);

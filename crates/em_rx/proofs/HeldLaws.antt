@@ -1,12 +1,13 @@
 -- How many octets records hold.
-use Rattle.std.proofs.Common.{◌≡◌, ℕ, ◌+◌, ◌≤◌, Bool, true, false, min, if◌then◌else◌}
+use Rattle.std.proofs.Common.{◌≡◌, ℕ, ◌+◌, ◌≤◌, Bool, true, false, min, List, if◌then◌else◌}
 use Rattle.std.proofs.Common.{length, take, drop, refl, arith, length-drop}
 use Rattle.std.proofs.lemmas.List.{length-take}
 use Rattle.em_mem.specs.Memory.{part}
 use Rattle.em_mem.specs.OldOctets.{OldOctets}
-use Rattle.em_regs.specs.declared.setup.RxSetup.{RxSetup}
 use Rattle.em_rx.specs.Fifo.{Fifo}
-use Rattle.em_rx.specs.Receive.{count_of, is_idle, octets_written}
+use Rattle.em_rx.specs.Receive.{count_of, descriptor, is_idle, octets_written}
+use Rattle.em_rx.proofs.ControlLaws.{count_most}
+use Rattle.em_rx.specs.declared.control.RxControl.{RxControl}
 use Rattle.em_rx.specs.RxStep.{KeepsStep, saved_by, undo_of}
 use Rattle.em_rx.specs.Undo.{octets_held}
 use Rattle.em_rx.specs.declared.step.RxStep.{RxStep}
@@ -32,5 +33,7 @@ unless_idle : (idle : Bool) (n : ℕ) → n ≤ 16_384 → (if idle then 0 else 
 unless_idle true n few = omega arith
 unless_idle false n few = omega arith
 
-pub most_written : (q : RxSetup) (fifo : Fifo) → q.buffer ≤ 16_384 → octets_written q fifo ≤ 16_392
-most_written q fifo few = unless_idle (is_idle q fifo) (count_of q fifo) (omega (arith, few))
+pub most_written : (q : RxControl) (m : List ℕ) (fifo : Fifo) → q.setup.buffer ≤ 16_384 → octets_written q m fifo ≤ 16_392
+most_written q m fifo few =
+    unless_idle (is_idle q fifo) (count_of q (descriptor q m) fifo)
+    (omega (arith, few, count_most q (descriptor q m) fifo))

@@ -8,25 +8,25 @@ use Rattle.em_mem.specs.Memory as memory
 use Rattle.em_mem.specs.Memory.{LiesIn, leaves, part, put}
 use Rattle.em_mem.specs.OldOctets.{OldOctets}
 use Rattle.em_mem.proofs.PutLaws.{length-part, length-put}
-use Rattle.std.proofs.lemmas.Bool.Decides.{nat_tests}
 use Rattle.std.proofs.lemmas.List.{length-take-le}
 use Rattle.em_mem.specs.Needs.{AgreeOn, no_octets, nothing, reads_only, with_octets_of}
-use Rattle.em_mem.proofs.NeedsLaws.{agree_first, lies_by_test, stays_in, two_taken_out}
-use Rattle.em_regs.specs.declared.setup.RxSetup.{RxSetup}
-use Rattle.em_rx.specs.Descriptor.{descriptor_of, written_back}
-use Rattle.em_rx.specs.Fifo.{Cells, Fifo, first, next}
+use Rattle.em_mem.proofs.NeedsLaws.{agree_first, lies_by_test, two_taken_out}
+use Rattle.em_rx.specs.Fifo.{Cells, Fifo, next}
 use Rattle.em_rx.specs.Needs.{descriptor, end, needs, piece, taken_into, written_at}
 use Rattle.em_rx.specs.Records.{saved_of, step_patch}
 use Rattle.em_rx.specs.Undo.{FitsStep, with_both}
 use Rattle.em_rx.specs.declared.undo.OldPiece.{OldPiece}
-use Rattle.em_rx.specs.Receive.{IsNextPiece, Outcome, after_write, buffer_at, count_of, delivery, descriptor_at}
-use Rattle.em_rx.specs.Receive.{is_idle, is_last, receive}
+use Rattle.em_rx.specs.Receive.{IsNextPiece, Outcome, after_write, back_of, count_of, delivery, descriptor as octets}
+use Rattle.em_rx.specs.Receive.{descriptor_at, is_idle, is_last, is_outside, place_of, receive, wrote}
+use Rattle.em_rx.specs.declared.control.RxControl.{RxControl}
+use Rattle.em_rx.specs.Fifo.{after_delivery}
+use Rattle.em_rx.proofs.ControlLaws.{count_rest, length_back}
 use Rattle.em_rx.specs.declared.refusal.RxRefusal.{RxRefusal}
 use Rattle.em_rx.specs.declared.refusal.RxRefusal.TheVariants.{DmaRange}
 use Rattle.em_rx.specs.declared.step.RxAnswer.TheVariants.{Idle}
 use Rattle.em_rx.proofs.StepLaws.{length-next}
 
-module _ (q : RxSetup) (base : ℕ) (fifo : Fifo) (m n : List ℕ) where
+module _ (q : RxControl) (base : ℕ) (fifo : Fifo) (m n : List ℕ) where
   -- by whether the step is idle, the descriptor leaves memory, and its buffer does
   abbrev needs_if : List ℕ → Bool → Bool → Bool → Needs
   needs_if x idle out short =
@@ -46,21 +46,18 @@ module _ (q : RxSetup) (base : ℕ) (fifo : Fifo) (m n : List ℕ) where
   is_out x = leaves base x (descriptor_at q) 16
 
   abbrev buffer_leaves : List ℕ → Bool
-  buffer_leaves x = leaves base x (buffer_at q x) (count_of q fifo)
+  buffer_leaves x = is_outside q base x fifo
 
   -- the descriptor has the same octets
   abbrev IsSame : Type 0
-  IsSame = part m (descriptor_at q) 16 ≡ part n (descriptor_at q) 16
-
-  same_buffer : IsSame → buffer_at q m ≡ buffer_at q n
-  same_buffer same = ap (λ (d : List ℕ). (descriptor_of d).address) same
+  IsSame = octets q m ≡ octets q n
 
   same_leaves : length m ≡ length n → is_out m ≡ is_out n
   same_leaves size = ap (λ (k : ℕ). nat_lt (descriptor_at q) base || nat_lt k (descriptor_at q + 16)) size
 
   same_test : length m ≡ length n → IsSame → buffer_leaves m ≡ buffer_leaves n
   same_test size same = λ i.
-      nat_lt (same_buffer same i) base || nat_lt (size i) (same_buffer same i + count_of q fifo)
+      nat_lt (place_of q (same i)) base || nat_lt (size i) (place_of q (same i) + count_of q (same i) fifo)
 
   first_if : (idle out s t : Bool) → take 1 (needs_if m idle out s).reads ≡ take 1 (needs_if n idle out t).reads
   first_if true out s t = refl
@@ -84,23 +81,40 @@ module _ (q : RxSetup) (base : ℕ) (fifo : Fifo) (m n : List ℕ) where
       λ i. if test same i then reads_only (descriptor q)
       else record {
         reads = descriptor q ∷ no_octets ∷ [];
-        writes = record { at = same_buffer same i; len = count_of q fifo } ∷ end q ∷ [];
+        writes = record { at = place_of q (same i); len = count_of q (same i) fifo } ∷ end q ∷ [];
       }
 
   -- what the step writes is taken out
   written : length m ≡ length n → IsSame → LiesIn base n (descriptor_at q) 16
-      → LiesIn base n (buffer_at q n) (count_of q fifo)
+      → LiesIn base n (place_of q (octets q n)) (count_of q (octets q n) fifo)
       → after_write q m fifo ≡ with_octets_of m (after_write q n fifo) (piece q n fifo ∷ end q ∷ [])
   written size same held_d held_b =
-      let octets : List ℕ = next fifo (count_of q fifo) in
-      let back : List ℕ = written_back (count_of q fifo) (is_last q fifo) (first fifo).tag in
-      ap (λ (a : ℕ). put (put m a octets) (descriptor_at q + 8) back) (same_buffer same)
-      ∙ sym (two_taken_out m n (buffer_at q n) octets (descriptor_at q + 8) back (count_of q fifo) size
-      (length-next fifo (count_of q fifo) (omega arith)) held_b.to (omega (arith, held_d.to)))
+      let d : List ℕ = octets q n in
+      let front : List ℕ = next fifo (count_of q d fifo) in
+      let back : List ℕ = back_of q d fifo in
+      let eight : length back ≡ 8 = length_back q d fifo (length-part n (descriptor_at q) 16 held_d.to) in
+      ap
+      (
+      λ (x : List ℕ).
+      put (put m (place_of q x) (next fifo (count_of q x fifo))) (descriptor_at q + 8) (back_of q x fifo)
+      )
+      same
+      ∙ sym (two_taken_out m n (place_of q d) front (descriptor_at q + 8) back (count_of q d fifo) size
+      (length-next fifo (count_of q d fifo) (count_rest q d fifo)) held_b.to (omega (arith, held_d.to, eight)))
+      ∙ ap (λ (k : ℕ). with_octets_of m (after_write q n fifo)
+      (piece q n fifo ∷ record { at = descriptor_at q + 8; len = k } ∷ [])) eight
+
+  -- a delivery by the descriptor's octets
+  abbrev told : List ℕ → List ℕ → Outcome
+  told d x = record {
+    answer = wrote q.setup (is_last q d fifo);
+    memory = x;
+    fifo = after_delivery fifo (count_of q d fifo);
+  }
 
   step_by : (idle out s t : Bool) → length m ≡ length n → (IsSame → s ≡ t)
-      → (out ≡ false → LiesIn base n (descriptor_at q) 16) → (t ≡ false → LiesIn base n (buffer_at q n)
-      (count_of q fifo))
+      → (out ≡ false → LiesIn base n (descriptor_at q) 16)
+      → (t ≡ false → LiesIn base n (place_of q (octets q n)) (count_of q (octets q n) fifo))
       → (idle ≡ false → out ≡ false → IsSame)
       → receive_if m idle out s ≡ taken_into m (needs_if n idle out t).writes (receive_if n idle out t)
   step_by true out s t size test held_d held_b same = refl
@@ -109,8 +123,7 @@ module _ (q : RxSetup) (base : ℕ) (fifo : Fifo) (m n : List ℕ) where
       ap (λ (b : Bool). receive_if m false false b) (test (same refl refl))
   step_by false false s false size test held_d held_b same =
       ap (λ (b : Bool). receive_if m false false b) (test (same refl refl))
-      ∙ ap (λ (x : List ℕ). Ok (record (delivery q n fifo) { memory = x }))
-      (written size (same refl refl) (held_d refl) (held_b refl))
+      ∙ (λ i. Ok (told (same refl refl i) (written size (same refl refl) (held_d refl) (held_b refl) i)))
 
   same_by : (idle out t : Bool) → AgreeOn m n (take 1 (needs_if n idle out t).reads) → idle ≡ false → out ≡ false
       → IsSame
@@ -136,21 +149,21 @@ module _ (q : RxSetup) (base : ℕ) (fifo : Fifo) (m n : List ℕ) where
   step_same agree =
       ap (λ (b : Bool). receive_if m (is_idle q fifo) b (buffer_leaves m)) (same_leaves agree.size)
       ∙ step_by (is_idle q fifo) (is_out n) (buffer_leaves m) (buffer_leaves n) agree.size (same_test agree.size)
-      (lies_by_test base n (descriptor_at q) 16) (lies_by_test base n (buffer_at q n) (count_of q fifo))
+      (lies_by_test base n (descriptor_at q) 16) (lies_by_test base n (place_of q (octets q n)) (count_of q (octets q n) fifo))
       (same_by (is_idle q fifo) (is_out n) (buffer_leaves n) (agree_first m n (needs q base n fifo).reads agree))
 
 -- an idle step writes nothing
-pub idle_writes : (q : RxSetup) (base : ℕ) (fifo : Fifo) (m : List ℕ) → is_idle q fifo ≡ true
+pub idle_writes : (q : RxControl) (base : ℕ) (fifo : Fifo) (m : List ℕ) → is_idle q fifo ≡ true
     → no_octets ∷ no_octets ∷ [] ≡ (needs q base m fifo).writes
 idle_writes q base fifo m idle = rw idle refl
 
 -- the next piece lies where the needs say
-pub piece_writes : (q : RxSetup) (base : ℕ) (fifo : Fifo) (m : List ℕ) (p : OldPiece) → IsNextPiece q base m fifo p
+pub piece_writes : (q : RxControl) (base : ℕ) (fifo : Fifo) (m : List ℕ) (p : OldPiece) → IsNextPiece q base m fifo p
     → written_at p ≡ (needs q base m fifo).writes
 piece_writes q base fifo m p is =
     let busy : is_idle q fifo ≡ false = is.writes in
     let inside : leaves base m (descriptor_at q) 16 ≡ false = is.inside in
-    let fits : leaves base m (buffer_at q m) (count_of q fifo) ≡ false = is.fits in
+    let fits : is_outside q base m fifo ≡ false = is.fits in
     let told : (needs q base m fifo).writes ≡ piece q m fifo ∷ end q ∷ [] = rw (busy, inside, fits) refl in
     (λ i. record { at = is.buffer i; len = is.len i } ∷ record { at = is.end_at i; len = 8 } ∷ []) ∙ sym told
 

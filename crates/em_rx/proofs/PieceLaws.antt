@@ -1,6 +1,6 @@
 -- The pieces of one frame, step after step.
 use Rattle.std.proofs.Common.{◌≡◌, ℕ, suc, zero, ◌+◌, ◌-◌, ◌*◌, ◌≤◌, ◌<◌, ◌==◌, ◌||◌, not, Bool, true, false, nat_lt}
-use Rattle.std.proofs.Common.{nat_le, if◌then◌else◌, List, ◌∷◌, ◌++◌, length, take, drop, refl, sym, ap, ap₂, subst}
+use Rattle.std.proofs.Common.{nat_le, if◌then◌else◌, List, ◌∷◌, ◌++◌, length, take, drop, refl, sym, ap, subst}
 use Rattle.std.proofs.Common.{◌∙◌, inl, inr, arith, length-drop, Result, Ok, Err}
 use Rattle.std.proofs.lemmas.List.{length-take-le, drop-append-le, take-append-le, drop-take, take-take, drop-drop}
 use Rattle.std.proofs.lemmas.Bool.{cases_eq, cases_lt}
@@ -9,14 +9,17 @@ use Rattle.std.proofs.Math.Nat.{mul-le-mul_right}
 use Rattle.em_mem.specs.Memory.{EndsIn, leaves, part, put}
 use Rattle.em_mem.proofs.PutLaws.{drop_past-put, length-part, length-put, part-put}
 use Rattle.em_regs.specs.declared.setup.RxSetup.{RxSetup}
+use Rattle.em_rx.specs.declared.control.RxControl.{RxControl}
+use Rattle.em_rx.specs.Control.{is_null_at}
 use Rattle.em_regs.specs.Ring.{following}
 use Rattle.em_mem.specs.Ring.{wrap}
 use Rattle.em_rx.specs.Frame.{Frame}
-use Rattle.em_rx.specs.Fifo.{Fifo, after_delivery}
-use Rattle.em_rx.specs.Descriptor.{descriptor_of, written_back}
-use Rattle.em_rx.specs.Receive.{Outcome, after_write, buffer_at, delivery, is_idle, receive}
+use Rattle.em_rx.specs.Fifo.{Fifo, after_delivery, next}
+use Rattle.em_rx.specs.Descriptor.{descriptor_of, marked_done, written_back}
+use Rattle.em_rx.specs.Receive.{Outcome, after_write, buffer_at, count_of, delivery, descriptor, is_idle, is_null}
+use Rattle.em_rx.specs.Receive.{is_outside, receive}
 use Rattle.em_rx.specs.Pieces.{AreApart, Engine, GoesInPieces, IsDelivered, after_step, after_steps, and_then, piece_at}
-use Rattle.em_rx.specs.Pieces.{piece_len, place, place_at, with_outcome}
+use Rattle.em_rx.specs.Pieces.{piece_len, place, place_at, with_head, with_outcome}
 use Rattle.em_rx.specs.declared.refusal.RxRefusal.{RxRefusal}
 use Rattle.em_rx.specs.declared.refusal.RxRefusal.TheVariants.{DmaRange}
 use Rattle.em_mem.proofs.NeedsLaws.{stays_in}
@@ -100,13 +103,16 @@ not_idle enabled n h t len on inside below other some =
     λ i. not (on i) || a i || b i || d i || e i
 
 -- memory after some steps: as it was where the steps to come read it, and with the pieces until then
-record IsKept (q : RxSetup) (m : List ℕ) (frame : Frame) (j k : ℕ) (w : List ℕ) : Type 0 where
+record IsKept (c : RxControl) (m : List ℕ) (frame : Frame) (j k : ℕ) (w : List ℕ) : Type 0 where
   size : length w ≡ length m
-  ahead : (i : ℕ) → k ≤ i → i < j → part w (place_at q i) 16 ≡ part m (place_at q i) 16
-  done : (i : ℕ) → i < k → IsDelivered q m w frame j i
+  ahead : (i : ℕ) → k ≤ i → i < j → part w (place_at c.setup i) 16 ≡ part m (place_at c.setup i) 16
+  done : (i : ℕ) → i < k → IsDelivered c m w frame j i
 
-module _ (q : RxSetup) (base : ℕ) (m : List ℕ) (frame : Frame) (frames : List Frame) (j : ℕ)
-    (fit : GoesInPieces q base m frame j) where
+module _ (c : RxControl) (base : ℕ) (m : List ℕ) (frame : Frame) (frames : List Frame) (j : ℕ)
+    (fit : GoesInPieces c base m frame j) where
+  abbrev q : RxSetup
+  q = c.setup
+
   abbrev L : ℕ
   L = length frame.octets
 
@@ -122,17 +128,17 @@ module _ (q : RxSetup) (base : ℕ) (m : List ℕ) (frame : Frame) (frames : Lis
   abbrev fifo_at : ℕ → Fifo
   fifo_at k = if nat_lt k j then begun k else gone
 
-  abbrev setup_at : ℕ → RxSetup
-  setup_at k = record q { head = place q k }
+  abbrev control_at : ℕ → RxControl
+  control_at k = with_head c (place q k)
 
   abbrev engine_at : ℕ → List ℕ → Engine
-  engine_at k w = record { setup = setup_at k; base = base; memory = w; fifo = fifo_at k }
+  engine_at k w = record { control = control_at k; base = base; memory = w; fifo = fifo_at k }
 
   abbrev piece : ℕ → List ℕ
   piece k = part frame.octets (k * B) (piece_len q L k)
 
   abbrev back : ℕ → List ℕ
-  back k = written_back (piece_len q L k) (k + 1 == j) frame.tag
+  back k = written_back (piece_len q L k) (k + 1 == j) c.inexact frame.tag
 
   abbrev memory_after : ℕ → List ℕ → List ℕ
   memory_after k w = put (put w (piece_at q m k) (piece k)) (place_at q k + 8) (back k)
@@ -183,14 +189,17 @@ module _ (q : RxSetup) (base : ℕ) (m : List ℕ) (frame : Frame) (frames : Lis
   length-piece : (k : ℕ) → k < j → length (piece k) ≡ piece_len q L k
   length-piece k h = length-part frame.octets (k * B) (piece_len q L k) (omega (arith, begun_below k h))
 
-  module _ (k : ℕ) (w : List ℕ) (h : k < j) (kept : IsKept q m frame j k w) where
-    abbrev setup : RxSetup
-    setup = setup_at k
+  module _ (k : ℕ) (w : List ℕ) (h : k < j) (kept : IsKept c m frame j k w) where
+    abbrev control : RxControl
+    control = control_at k
 
-    buffer_is : buffer_at setup w ≡ piece_at q m k
+    abbrev d : List ℕ
+    d = descriptor control w
+
+    buffer_is : buffer_at control w ≡ piece_at q m k
     buffer_is = ap (λ (octets : List ℕ). (descriptor_of octets).address) (kept.ahead k (omega arith) h)
 
-    idle_not : is_idle setup (begun k) ≡ false
+    idle_not : is_idle control (begun k) ≡ false
     idle_not =
         not_idle q.enabled q.count (place q k) q.tail (length (frame ∷ frames)) fit.enabled
         (wrap-below q.count (q.head + k) (omega (arith, fit.head, few)) (omega (arith, fit.head)))
@@ -203,42 +212,63 @@ module _ (q : RxSetup) (base : ℕ) (m : List ℕ) (frame : Frame) (frames : Lis
         let held = fit.descriptor_held k h in
         stays_in base w (place_at q k) 16 (record { from = held.from; to = omega (arith, held.to, kept.size) })
 
-    piece_in : leaves base w (buffer_at setup w) (piece_len q L k) ≡ false
+    piece_in : leaves base w (buffer_at control w) (piece_len q L k) ≡ false
     piece_in =
         let held = fit.piece_held k h in
         ap (λ (p : ℕ). leaves base w p (piece_len q L k)) buffer_is
         ∙ stays_in base w (piece_at q m k) (piece_len q L k)
         (record { from = held.from; to = omega (arith, held.to, kept.size) })
 
-    receives : receive setup base w (begun k) ≡ Ok (delivery setup w (begun k))
+    -- its descriptor takes octets
+    null_not : is_null control d ≡ false
+    null_not = ap (is_null_at c.profile) buffer_is ∙ fit.filled k h
+
+    inside : is_outside control base w (begun k) ≡ false
+    inside =
+        ap
+        (
+        λ (b : Bool).
+        leaves base w (if b then place_at q k else buffer_at control w) (if b then 0 else piece_len q L k)
+        )
+        null_not
+        ∙ piece_in
+
+    receives : receive control base w (begun k) ≡ Ok (delivery control w (begun k))
     receives =
         let out : Result Outcome RxRefusal = Err DmaRange in
-        let wrote : Result Outcome RxRefusal = Ok (delivery setup w (begun k)) in
-        if_false (is_idle setup (begun k)) _ _ idle_not
+        let wrote : Result Outcome RxRefusal = Ok (delivery control w (begun k)) in
+        if_false (is_idle control (begun k)) _ _ idle_not
         ∙ if_false (leaves base w (place_at q k) 16) out _ descriptor_in
-        ∙ if_false (leaves base w (buffer_at setup w) (piece_len q L k)) out wrote piece_in
+        ∙ if_false (is_outside control base w (begun k)) out wrote inside
 
-    memory_is : after_write setup w (begun k) ≡ memory_after k w
-    memory_is =
-        ap₂
+    -- memory after the step by whether its descriptor takes octets, where its buffer lies, and whether the piece is the last
+    abbrev written_by : Bool → ℕ → Bool → List ℕ
+    written_by null p last =
+        let n : ℕ = if null then 0 else piece_len q L k in
+        put (put w (if null then place_at q k else p) (next (begun k) n)) (place_at q k + 8)
         (
-        λ (p : ℕ) (last : Bool).
-        put (put w p (piece k)) (place_at q k + 8) (written_back (piece_len q L k) last frame.tag)
+        if null then marked_done (drop 8 d)
+        else written_back n (if null then false else last) c.inexact frame.tag
         )
-        buffer_is (last_is k h)
+
+    memory_is : after_write control w (begun k) ≡ memory_after k w
+    memory_is = λ i. written_by (null_not i) (buffer_is i) (last_is k h i)
+
+    moved_on : after_delivery (begun k) (count_of control d (begun k)) ≡ fifo_at (suc k)
+    moved_on = ap (λ (b : Bool). after_delivery (begun k) (if b then 0 else piece_len q L k)) null_not ∙ fifo_is k h
 
     step_is : after_step (engine_at k w) ≡ Ok (engine_at (suc k) (memory_after k w))
     step_is =
         let test : nat_lt k j ≡ true = grind (arith, nat_tests) in
-        let here : Engine = record { setup = setup; base = base; memory = w; fifo = begun k } in
-        let there : with_outcome here (delivery setup w (begun k)) ≡ engine_at (suc k) (memory_after k w)
+        let here : Engine = record { control = control; base = base; memory = w; fifo = begun k } in
+        let there : with_outcome here (delivery control w (begun k)) ≡ engine_at (suc k) (memory_after k w)
         = λ i. record {
-          setup = record q { head = following_place q.count q.head k fit.head (omega (arith, few)) i };
+          control = with_head c (following_place q.count q.head k fit.head (omega (arith, few)) i);
           base = base;
           memory = memory_is i;
-          fifo = fifo_is k h i;
+          fifo = moved_on i;
         } in
-        ap (λ (f : Fifo). after_step (record { setup = setup; base = base; memory = w; fifo = f })) (if_true _
+        ap (λ (f : Fifo). after_step (record { control = control; base = base; memory = w; fifo = f })) (if_true _
         (begun k) gone test)
         ∙ ap (and_then (λ (x : Outcome). let r : Result Engine RxRefusal = Ok (with_outcome here x) in r)) receives
         ∙ ap (λ (x : Engine). let r : Result Engine RxRefusal = Ok x in r) there
@@ -283,7 +313,7 @@ module _ (q : RxSetup) (base : ℕ) (m : List ℕ) (frame : Frame) (frames : Lis
         (turned (place_at q k) 16 (place_at q i) 16 (fit.descriptors k i past below))
         ∙ kept.ahead i (omega arith) below
 
-    done_before : (i : ℕ) → i < k → IsDelivered q m (memory_after k w) frame j i
+    done_before : (i : ℕ) → i < k → IsDelivered c m (memory_after k w) frame j i
     done_before i less =
         let below : i < j = omega arith in
         record {
@@ -300,7 +330,7 @@ module _ (q : RxSetup) (base : ℕ) (m : List ℕ) (frame : Frame) (frames : Lis
               ∙ (kept.done i less).descriptor;
         }
 
-    done_here : IsDelivered q m (memory_after k w) frame j k
+    done_here : IsDelivered c m (memory_after k w) frame j k
     done_here =
         let apart : AreApart (piece_at q m k) (piece_len q L k) (place_at q k + 8) 8
         = elim (fit.both k k h h) [ inl before ↦ inl (omega arith) | inr behind ↦ inr (omega arith) ] in
@@ -312,18 +342,18 @@ module _ (q : RxSetup) (base : ℕ) (m : List ℕ) (frame : Frame) (frames : Lis
           descriptor = part-put first (place_at q k + 8) (back k) held_back;
         }
 
-    done_after : (i : ℕ) → i < suc k → IsDelivered q m (memory_after k w) frame j i
+    done_after : (i : ℕ) → i < suc k → IsDelivered c m (memory_after k w) frame j i
     done_after i less = elim (cases_lt i k) [
       | inl before ↦ done_before i before
-      | inr here ↦ subst (IsDelivered q m (memory_after k w) frame j) (omega arith) done_here
+      | inr here ↦ subst (IsDelivered c m (memory_after k w) frame j) (omega arith) done_here
     ]
 
-    kept_after : IsKept q m frame j (suc k) (memory_after k w)
+    kept_after : IsKept c m frame j (suc k) (memory_after k w)
     kept_after = record { size = size_after; ahead = ahead_after; done = done_after }
 
   -- after k steps
   going : (k : ℕ) → k ≤ j →
-      (w : List ℕ) × (after_steps k (engine_at 0 m) ≡ Ok (engine_at k w)) × IsKept q m frame j k w
+      (w : List ℕ) × (after_steps k (engine_at 0 m) ≡ Ok (engine_at k w)) × IsKept c m frame j k w
   going zero h = (m, refl, record { size = refl; ahead = λ i past below. refl; done = λ i less. absurd (omega arith) })
   going (suc k) h =
       let before = going k (omega arith) in (
@@ -339,7 +369,7 @@ module _ (q : RxSetup) (base : ℕ) (m : List ℕ) (frame : Frame) (frames : Lis
   ]
 
   start : (fifo : Fifo) → fifo ≡ record { frames = frame ∷ frames; taken = 0 } →
-      (let s : Engine = record { setup = q; base = base; memory = m; fifo = fifo } in s) ≡ engine_at 0 m
+      (let s : Engine = record { control = c; base = base; memory = m; fifo = fifo } in s) ≡ engine_at 0 m
   start fifo is =
       let head : q.head ≡ place q 0 = grind (arith, nat_tests, fit.head) in
       let test : nat_lt 0 j ≡ true = grind (arith, nat_tests, some_piece) in
@@ -348,13 +378,13 @@ module _ (q : RxSetup) (base : ℕ) (m : List ℕ) (frame : Frame) (frames : Lis
       = is
       ∙ ap (λ (taken : ℕ). let f : Fifo = record { frames = frame ∷ frames; taken = taken } in f) none_taken
       ∙ sym (if_true _ (begun 0) gone test) in
-      λ i. record { setup = record q { head = head i }; base = base; memory = m; fifo = begins i }
+      λ i. record { control = with_head c (head i); base = base; memory = m; fifo = begins i }
 
   -- after as many steps as the frame has pieces
   pub pieces : (fifo : Fifo) → fifo ≡ record { frames = frame ∷ frames; taken = 0 } →
-      (t : Engine) × (after_steps j (record { setup = q; base = base; memory = m; fifo = fifo }) ≡ Ok t)
+      (t : Engine) × (after_steps j (record { control = c; base = base; memory = m; fifo = fifo }) ≡ Ok t)
       × (t.fifo ≡ record { frames = frames; taken = 0 })
-      × ((i : ℕ) → i < j → IsDelivered q m t.memory frame j i)
+      × ((i : ℕ) → i < j → IsDelivered c m t.memory frame j i)
   pieces fifo is =
       let end = going j (omega arith) in
       let test : nat_lt j j ≡ false = grind (arith, nat_tests) in (
@@ -363,3 +393,14 @@ module _ (q : RxSetup) (base : ℕ) (m : List ℕ) (frame : Frame) (frames : Lis
         if_false _ (begun j) gone test,
         end.2.done,
       )
+
+  -- until then the frame is the oldest one
+  pub still_first : (fifo : Fifo) → fifo ≡ record { frames = frame ∷ frames; taken = 0 } → (k : ℕ) → k < j →
+      (e : Engine) → after_steps k (record { control = c; base = base; memory = m; fifo = fifo }) ≡ Ok e →
+      e.fifo.frames ≡ frame ∷ frames
+  still_first fifo is k less e ok =
+      let here = going k (omega arith) in
+      let test : nat_lt k j ≡ true = grind (arith, nat_tests, less) in
+      let there : Ok (engine_at k here.0) ≡ Ok e = sym (ap (after_steps k) (start fifo is) ∙ here.1) ∙ ok in
+      let same : engine_at k here.0 ≡ e = cc in
+      ap (λ (x : Engine). x.fifo.frames) (sym same) ∙ ap (λ (f : Fifo). f.frames) (if_true _ (begun k) gone test)

@@ -1,5 +1,5 @@
 -- The two parts of what a step of the receive engine gives.
-use Rattle.std.specs.Prelude.{◌≡◌, ◌≤◌, ◌<◌, ◌^◌, ◌+◌, ℕ, length}
+use Rattle.std.specs.Prelude.{◌≡◌, ◌≤◌, ◌<◌, ◌^◌, ◌+◌, ℕ, length, true, false}
 use Rattle.em_mem.specs.OldOctets.{OldOctets, Saves}
 use Rattle.em_rx.specs.Records.{saved_of, step_patch}
 use Rattle.em_rx.specs.RxUndo.{RxUndo, Nothing, Step}
@@ -31,9 +31,11 @@ KeepsStep (Wrote index next causes piece) more old new =
     (saved_of piece + more ≤ length new.octets)
     × (saved_of piece + more ≤ length old.octets → Saves (saved_of piece) old new)
 
--- a piece has an octet, and lies with its descriptor's end below 2^40: so a record of it has few bits
+-- a piece lies with its descriptor's end below 2^40, one of no octet is not the frame's last, and one of a single octet is:
+-- so a record of it has few bits
 pub record IsSmall (p : OldPiece) : Type 0 where
-  pub some : 0 < p.len
+  pub none : p.len ≡ 0 → p.left ≡ false
+  pub one : p.len ≡ 1 → p.left ≡ true
   pub most : p.len ≤ 16_384
   pub buffer : p.buffer < 2 ^ 40
   pub end_at : p.end_at < 2 ^ 40

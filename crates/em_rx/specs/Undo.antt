@@ -3,8 +3,7 @@ use Rattle.std.specs.Prelude.{◌≡◌, ℕ, ◌+◌, ◌-◌, ◌<◌, ◌≤�
 use Rattle.em_mem.specs.Memory as memory
 use Rattle.em_mem.specs.OldOctets.{back_by}
 use Rattle.em_mem.specs.Ring.{ring_put, wrap}
-use Rattle.em_rx.specs.Descriptor.{written_back}
-use Rattle.em_rx.specs.Fifo.{Cells, Fifo, IsSound, after_delivery, first, next, shows}
+use Rattle.em_rx.specs.Fifo.{Cells, Fifo, IsSound, after_delivery, next, shows}
 use Rattle.em_rx.specs.FramePatch.{FramePatch}
 use Rattle.em_rx.specs.StepPatch.{StepPatch}
 use Rattle.em_rx.specs.RxUndo.{RxUndo, Nothing, Places, Frame, Step}
@@ -67,10 +66,9 @@ pub record FitsStep (c : Cells) (m : memory.Cells) (p : StepPatch) : Type 0 wher
   pub second : memory.Fits (memory.undo m p.first) p.second
   pub sound : IsSound (record c { places = places_before c p })
 
--- memory with the next octets of the first frame in a buffer, and then a descriptor written back
-abbrev pub delivered : Fifo → List ℕ → OldPiece → List ℕ
-delivered fifo octets p =
-    memory.put (memory.put octets p.buffer (next fifo p.len)) p.end_at (written_back p.len p.left (first fifo).tag)
+-- memory with the next octets of the first frame in a buffer, and then the end of a descriptor written back
+abbrev pub delivered : Fifo → List ℕ → OldPiece → List ℕ → List ℕ
+delivered fifo octets p end = memory.put (memory.put octets p.buffer (next fifo p.len)) p.end_at end
 
 -- with these places the cells show n octets more of the first frame in guest memory
 pub record IsMove (c : Cells) (places : places.Places) (n : ℕ) : Type 0 where

@@ -13,7 +13,7 @@ ghost use Rattle.em_rx.specs.RxUndo.{Frame};
 ghost use Rattle.em_rx.specs.Undo.{Fits, FitsFrame, FitsStep, IsMove, Reverses, ReversesStep, delivered, moved_back};
 ghost use Rattle.em_rx.specs.Undo.{octets_held, places_before, undo_fifo, undo_memory, with_both, with_patch};
 
-use crate::descriptor::{WRITTEN_OCTETS, written_back};
+use crate::descriptor::WRITTEN_OCTETS;
 use crate::frame::{stored_octets, tag_of};
 use crate::places::{Entry, Places};
 use crate::ring::{back, put_both, save_part};
@@ -314,6 +314,7 @@ impl Fifo {
     pub fn first_frame(&self) -> Option<StoredFrame<'_>>
         ensures none { IsNone result ↔ (length (shows self.now).frames ≡ 0) }
         ensures lies { IfSome result (LiesSo (first (shows self.now))) }
+        ensures least { IfSome result (λ frame. 56 ≤ length frame.front.now + length frame.back.now) }
     {
         if self.places.count == 0 {
             return None;
@@ -358,7 +359,7 @@ impl Fifo {
     }
 
     /// The entry of the first frame.
-    fn first_entry(&self) -> Entry
+    pub(crate) fn first_entry(&self) -> Entry
         requires { 0 < length (shows self.now).frames }
         ensures { IsFirst self.now result }
     {
@@ -433,13 +434,14 @@ impl Fifo {
         }
     }
 
-    /// Writes the piece of the first frame, and then its descriptor back. What they overwrite is saved before other old
+    /// Writes the piece of the first frame, and then the end of its descriptor back. What they overwrite is saved before other old
     /// octets: both are read before either is written, since they may lie over each other.
     #[inline(always)]
     pub(crate) fn deliver(
         &mut self,
         memory: &mut GuestMemory,
         piece: &OldPiece,
+        end: &[u8; WRITTEN_OCTETS],
         old: &mut OldOctets,
     )
         requires some { 0 < length (shows self.old).frames }
@@ -450,18 +452,18 @@ impl Fifo {
         requires made { IsMade memory.old piece.now.buffer piece.now.len }
         requires end_made { IsMade memory.old piece.now.end_at 8 }
         requires old_room { saved_of piece.now ≤ length old.old.octets }
+        requires eight { length end.now ≡ 8 }
         ensures shown { shows self.new ≡ after_delivery (shows self.old) piece.now.len }
         ensures base { memory.new.base ≡ memory.old.base }
-        ensures octets { memory.new.octets ≡ delivered (shows self.old) memory.old.octets piece.now }
+        ensures octets { memory.new.octets ≡ delivered (shows self.old) memory.old.octets piece.now end.now }
         ensures saves { Saves (saved_of piece.now) old.old old.new }
         ensures reverses { ReversesStep self.old self.new memory.old memory.new (step_patch piece.now old.new) }
     {
         let (buffer, end_at) = (piece.buffer, piece.end_at);
-        let end = written_back(piece.len, piece.left, self.first_entry().tag);
         memory.save(end_at, WRITTEN_OCTETS, old);
         memory.save(buffer, piece.len as usize, old);
         self.write_next(memory, buffer, piece.len as u32);
-        memory.write(end_at, &end);
+        memory.write(end_at, end);
         self.places = self.places_after(piece.len as u32);
     }
 

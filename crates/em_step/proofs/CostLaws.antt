@@ -6,16 +6,16 @@ use Rattle.std.proofs.lemmas.Bool.{ltb-false}
 use Rattle.std.proofs.lemmas.Bool.Decides.{nat_tests}
 use Rattle.std.specs.Prelude.{if◌then◌else◌, nat_lt, ◌||◌, slice_index, ◌/◌, ◌%◌, ◌^◌}
 use Rattle.em_regs.specs.declared.reg.Reg.TheVariants.{Rctl}
-use Rattle.em_regs.specs.Setup.{has, rx_setup, value_of}
+use Rattle.em_regs.specs.Setup.{has, value_of}
 use Rattle.em_regs.specs.Table.{reg_at}
-use Rattle.em_rx.specs.Receive as rx
+use Rattle.em_rx.proofs.HeldLaws.{most_written}
 use Rattle.em_rx.specs.Receive.{octets_written}
 use Rattle.em_tx.specs.Cells.{Shown}
 use Rattle.em_tx.specs.Engine as tx
 use Rattle.em_tx.specs.declared.answer.TxAnswer.{TxAnswer}
 use Rattle.em_tx.specs.declared.refusal.TxRefusal.{TxRefusal}
 use Rattle.em_tx.proofs.CostLaws as tx_laws
-use Rattle.em_step.specs.Engines.{sending, transmitted, tx_control, tx_stepped}
+use Rattle.em_step.specs.Engines.{rx_control, sending, transmitted, tx_control, tx_stepped}
 use Rattle.em_filter.specs.Vlan.{tagged}
 use Rattle.em_step.specs.State.{State}
 use Rattle.em_step.specs.Arrival.{arrival, keeps_sequence, octets_stored}
@@ -90,16 +90,10 @@ of_bsex : (bsex : Bool) (n : ℕ) →
 of_bsex true n = greater_sizes_most n
 of_bsex false n = sizes_most n
 
-written_most : (idle : Bool) (n b : ℕ) → n ≤ b → b ≤ 16_384 → (if idle then 0 else n + 8) ≤ 16_392
-written_most true n b few most = omega arith
-written_most false n b few most = omega arith
-
-piece_most : (s : State) → octets_written (rx_setup s.registers) s.fifo ≤ 16_392
+piece_most : (s : State) → octets_written (rx_control s) s.memory s.fifo ≤ 16_392
 piece_most s =
-    let q = rx_setup s.registers in
     let rctl = value_of s.registers Rctl in
-    written_most (rx.is_idle q s.fifo) (rx.count_of q s.fifo) q.buffer (omega arith)
-    (of_bsex (has rctl 0x0200_0000) (rctl / 2 ^ 16 % 4))
+    most_written (rx_control s) s.memory s.fifo (of_bsex (has rctl 0x0200_0000) (rctl / 2 ^ 16 % 4))
 
 -- a transmit step that is not refused
 sent_by_engine : (s : State) (x : Result (TxAnswer × Shown) TxRefusal) (r : Answer × State) (n : ℕ)

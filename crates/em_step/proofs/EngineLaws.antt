@@ -5,10 +5,9 @@ use Rattle.std.proofs.Common.{refl, sym, ap, ◌∙◌, arith, subst}
 use Rattle.std.specs.Prelude.{IsOk, not, ◌+◌, ◌≤◌, ◌==◌, if◌then◌else◌}
 use Rattle.em_mem.specs.Memory.{leaves}
 use Rattle.em_regs.specs.declared.reg.Reg.TheVariants.{Rdh}
-use Rattle.em_regs.specs.declared.setup.RxSetup.{RxSetup}
+use Rattle.em_rx.specs.declared.control.RxControl.{RxControl}
 use Rattle.em_regs.specs.declared.setup.TxSetup.{TxSetup}
 use Rattle.em_regs.specs.RegFile.{put}
-use Rattle.em_regs.specs.Setup.{rx_setup}
 use Rattle.em_latch.specs.Latches.{after_raise}
 use Rattle.em_rx.specs.Receive.{Outcome, receive}
 use Rattle.em_rx.specs.declared.step.RxAnswer.{RxAnswer}
@@ -26,7 +25,7 @@ use Rattle.em_tx.specs.declared.answer.TxAnswer.TheVariants as tx_answer
 use Rattle.em_tx.specs.declared.control.TxControl.{TxControl}
 use Rattle.em_tx.specs.declared.refusal.TxRefusal.{TxRefusal}
 use Rattle.em_tx.specs.declared.refusal.TxRefusal.TheVariants as tx_refusal
-use Rattle.em_step.specs.Engines.{after_tx_answer, rx_step, rx_stepped, sending, tx_refused, tx_step, tx_stepped}
+use Rattle.em_step.specs.Engines.{after_tx_answer, rx_control, rx_step, rx_stepped, sending, tx_refused, tx_step, tx_stepped}
 use Rattle.em_step.specs.Engines.{tx_control, with_shown}
 use Rattle.em_step.specs.Event.{transmits}
 use Rattle.em_step.specs.State.{State}
@@ -35,8 +34,8 @@ use Rattle.em_step.specs.declared.event.Answer.TheVariants.{Wrote}
 
 -- ---- receiving
 -- what a step that wrote leaves, part by part
-pub rx_wrote : (s t : State) {q : RxSetup} {a : RxAnswer} {index next causes : ℕ}
-    → q ≡ rx_setup s.registers
+pub rx_wrote : (s t : State) {q : RxControl} {a : RxAnswer} {index next causes : ℕ}
+    → q ≡ rx_control s
     → receive q s.base s.memory s.fifo ≡ Ok (record { answer = a; memory = t.memory; fifo = t.fifo })
     → a ≡ rx_answer.Wrote index next causes
     → t.registers ≡ put s.registers Rdh next → t.latches ≡ after_raise s.latches causes
@@ -46,7 +45,7 @@ pub rx_wrote : (s t : State) {q : RxSetup} {a : RxAnswer} {index next causes : �
 rx_wrote s t {q = q} {a = a} {index = index} {next = next} {causes = causes}
     setup is answer registers latches base gathered wire eeprom link profile pins phy =
     let left : RxAnswer → Outcome = λ x. record { answer = x; memory = t.memory; fifo = t.fifo } in
-    let by_setup : receive (rx_setup s.registers) s.base s.memory s.fifo ≡ Ok (left (rx_answer.Wrote index next causes))
+    let by_setup : receive (rx_control s) s.base s.memory s.fifo ≡ Ok (left (rx_answer.Wrote index next causes))
     = ap (λ p. receive p s.base s.memory s.fifo) (sym setup) ∙ is ∙ ap (λ x. Ok (left x)) answer in
     let same : Path State _ _ = λ i. record {
       registers = sym registers i;

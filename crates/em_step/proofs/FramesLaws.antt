@@ -1,5 +1,5 @@
 -- Frames whose octets were let go are nothing to a record that leads to a state behind them.
-use Rattle.std.proofs.Common.{◌≡◌, ℕ, ◌≤◌, List, length, refl, ap, arith}
+use Rattle.std.proofs.Common.{◌≡◌, ℕ, ◌≤◌, length, refl, ap, arith}
 use Rattle.em_latch.specs.Latches as latches
 use Rattle.em_latch.specs.Latches.{Growth}
 use Rattle.em_regs.specs.Storage.{Registers}

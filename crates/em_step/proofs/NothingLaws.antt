@@ -1,5 +1,5 @@
 -- An access where no register lies.
-use Rattle.std.proofs.Common.{◌≡◌, ◌∙◌, ℕ, Bool, true, false, cond, Option, Some, None, refl, sym, ap}
+use Rattle.std.proofs.Common.{◌≡◌, ◌∙◌, ℕ, Bool, true, cond, Option, Some, None, refl, sym, ap}
 use Rattle.std.specs.Prelude.{if◌then◌else◌, Result, Ok, Err}
 use Rattle.em_regs.specs.declared.profile.Profile.{Profile}
 use Rattle.em_regs.specs.declared.profile.Profile.TheVariants.{Table, Adapter}

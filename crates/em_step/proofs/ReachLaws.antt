@@ -13,7 +13,7 @@ use Rattle.em_regs.proofs.TableLaws.{below_space, reg_at-offset_of}
 use Rattle.em_latch.specs.Latches as latches
 use Rattle.em_latch.specs.Latches.{is_latched, is_latched_kind}
 use Rattle.em_step.specs.Access.{gives_by}
-use Rattle.em_step.specs.Before.{LeavesFrom, LeavesRegister, latch_before, latched_before, mdic_before, pins_before}
+use Rattle.em_step.specs.Before.{LeavesFrom, latch_before, latched_before, mdic_before, pins_before}
 use Rattle.em_step.specs.Before.{status_before, stored_before}
 use Rattle.em_step.specs.Cells.{Cells, shows}
 use Rattle.em_step.specs.Undo.{Fits, undo, word}

@@ -2,14 +2,13 @@
 use Rattle.std.proofs.Common.{◌≡◌, ◌≢◌, ◌∙◌, ℕ, ◌+◌, ◌≤◌, ◌==◌, ◌||◌, ◌&&◌, Bool, true, false}
 use Rattle.std.proofs.Common.{not, if◌then◌else◌, List, [], ◌∷◌, ◌++◌, length, refl, sym, ap, subst, inl, inr}
 use Rattle.std.proofs.Common.{arith, Option, Some, None, Result, Ok, Err}
-use Rattle.std.specs.Prelude.{◌⊎◌, nat_lt, nat_le, slice_index_or, All}
+use Rattle.std.specs.Prelude.{◌⊎◌, drop, min, nat_lt, nat_le, slice_index_or, All}
 use Rattle.std.proofs.lemmas.Bool.{eqb-false, ltb-false}
 use Rattle.std.proofs.lemmas.Bool.Decides.{nat_tests}
 use Rattle.std.proofs.lemmas.List.{take_all}
 use Rattle.em_mem.specs.Memory.{LiesIn, leaves, part, put}
 use Rattle.em_mem.proofs.PutLaws.{length-part}
 use Rattle.em_regs.specs.declared.reg.Reg.TheVariants.{Tdh, Tdt}
-use Rattle.em_regs.specs.declared.setup.RxSetup.{RxSetup}
 use Rattle.em_regs.specs.declared.setup.TxSetup.{TxSetup}
 use Rattle.em_regs.specs.Setup.{rx_setup, tx_setup, value_of}
 use Rattle.em_regs.specs.Storage.{Registers}
@@ -23,11 +22,12 @@ use Rattle.em_address.specs.declared.kind.Kind.{Kind}
 use Rattle.em_filter.specs.declared.outcome.Verdict.{Verdict}
 use Rattle.em_filter.specs.declared.outcome.Verdict.TheVariants.{Reject, Accept}
 use Rattle.em_filter.specs.declared.outcome.Verdict.TheVariants.{Undersize as TooShort, Oversize as TooLong}
-use Rattle.em_rx.specs.Descriptor.{written_back}
-use Rattle.em_rx.specs.Fifo.{Fifo, after_arrival, after_delivery, next}
+use Rattle.em_rx.specs.Descriptor.{marked_done, written_back}
+use Rattle.em_rx.specs.Fifo.{Fifo, after_arrival, after_delivery, first as oldest, next, rest}
 use Rattle.em_rx.specs.Frame.{Frame, stored_frame}
-use Rattle.em_rx.specs.Receive.{Outcome, buffer_at, causes_of, count_of, delivery, descriptor_at, following}
-use Rattle.em_rx.specs.Receive.{is_idle, is_last}
+use Rattle.em_rx.specs.Receive.{Outcome, buffer_at, causes_of, delivery, descriptor, descriptor_at, following, is_idle}
+use Rattle.em_rx.specs.Receive.{is_null, is_outside, wrote}
+use Rattle.em_rx.specs.declared.control.RxControl.{RxControl}
 use Rattle.em_rx.specs.declared.step.RxAnswer.TheVariants as rx_answer
 use Rattle.em_rx.specs.declared.refusal.RxRefusal.TheVariants as rx_refusal
 use Rattle.em_tx.specs.Cells.{Shown}
@@ -43,7 +43,7 @@ use Rattle.em_tx.specs.declared.refusal.TxRefusal.TheVariants as tx_refusal
 use Rattle.em_step.specs.Arrival.{after_accept, after_arrived, after_miss, arrival, is_enabled, judged, judgement, kept_frame}
 use Rattle.em_step.specs.Arrival.{keeps_sequence, lacks_room, with_sequence}
 use Rattle.em_step.specs.Engines.{after_rx_answer, after_tx_answer, rx_step, rx_stepped, sending, tx_step, tx_stepped}
-use Rattle.em_step.specs.Engines.{is_halted, tx_control, with_outcome, with_shown}
+use Rattle.em_step.specs.Engines.{is_halted, rx_control, tx_control, with_outcome, with_shown}
 use Rattle.em_step.specs.State.{State}
 use Rattle.em_step.specs.Step.{arrive}
 use Rattle.em_step.specs.Whole.{IsUsual, IsPlain, plain, KeepsAllButFifo, Admits, ReceivesWhole, padded}
@@ -167,30 +167,47 @@ abbrev queued : Frame → List Frame → Fifo
 queued f fs = record { frames = f ∷ fs; taken = 0 }
 
 -- a frame that went whole into its buffer
-abbrev delivered : RxSetup → List ℕ → List ℕ → List Frame → Outcome
+abbrev delivered : RxControl → List ℕ → List ℕ → List Frame → Outcome
 delivered q m f fs = record {
-  answer = rx_answer.Wrote q.head (following q) (causes_of q true);
-  memory = put (put m (buffer_at q m) f) (descriptor_at q + 8) (written_back (length f) true None);
+  answer = rx_answer.Wrote q.setup.head (following q.setup) (causes_of q.setup true);
+  memory = put (put m (buffer_at q m) f) (descriptor_at q + 8) (written_back (length f) true q.inexact None);
   fifo = record { frames = fs; taken = 0 };
 }
 
+-- what a step leaves, by whether its descriptor takes octets
+abbrev by_null : RxControl → List ℕ → Fifo → Bool → Outcome
+by_null q m fifo null =
+    let n : ℕ = if null then 0 else min q.setup.buffer (rest fifo) in
+    let last : Bool = if null then false else nat_le (rest fifo) q.setup.buffer in
+    record {
+      answer = wrote q.setup last;
+      memory =
+          put (put m (if null then descriptor_at q else buffer_at q m) (next fifo n)) (descriptor_at q + 8)
+          (if null then marked_done (drop 8 (descriptor q m)) else written_back n last q.inexact (oldest fifo).tag);
+      fifo = after_delivery fifo n;
+    }
+
 -- a whole frame is delivered at once
-deliver_whole : (q : RxSetup) (m : List ℕ) (f : List ℕ) (fs : List Frame) → IsUsual f → q.buffer ≡ 2048
-    → delivery q m (queued (plain f) fs) ≡ delivered q m f fs
-deliver_whole q m f fs usual size =
+deliver_whole : (q : RxControl) (m : List ℕ) (f : List ℕ) (fs : List Frame) → IsUsual f → q.setup.buffer ≡ 2048
+    → is_null q (descriptor q m) ≡ false → delivery q m (queued (plain f) fs) ≡ delivered q m f fs
+deliver_whole q m f fs usual size given =
     let fifo = queued (plain f) fs in
-    let count : count_of q fifo ≡ length f = omega (arith, usual.least, usual.most, size) in
-    let last : is_last q fifo ≡ true = grind (arith, nat_tests, usual.most, size) in
-    let piece : next fifo (count_of q fifo) ≡ f = take_all (count_of q fifo) f (omega (arith, count)) in
-    let gone : nat_lt (0 + count_of q fifo) (length f) ≡ false = grind (arith, nat_tests, count) in
-    let left : after_delivery fifo (count_of q fifo) ≡ record { frames = fs; taken = 0 }
-    = ap (λ (b : Bool).
-    if b then record fifo { taken = 0 + count_of q fifo } else record { frames = fs; taken = 0 }) gone in
+    let n : ℕ = min q.setup.buffer (rest fifo) in
+    let count : n ≡ length f = omega (arith, usual.least, usual.most, size) in
+    let last : nat_le (rest fifo) q.setup.buffer ≡ true = grind (arith, nat_tests, usual.most, size) in
+    let piece : next fifo n ≡ f = take_all n f (omega (arith, count)) in
+    let gone : nat_lt (0 + n) (length f) ≡ false = grind (arith, nat_tests, count) in
+    let left : after_delivery fifo n ≡ record { frames = fs; taken = 0 }
+    = ap (λ (b : Bool). if b then record fifo { taken = 0 + n } else record { frames = fs; taken = 0 }) gone in
+    ap (by_null q m fifo) given
+    ∙ (
     λ i. record {
-      answer = rx_answer.Wrote q.head (following q) (causes_of q (last i));
-      memory = put (put m (buffer_at q m) (piece i)) (descriptor_at q + 8) (written_back (count i) (last i) None);
+      answer = wrote q.setup (last i);
+      memory = put (put m (buffer_at q m) (piece i)) (descriptor_at q + 8)
+          (written_back (count i) (last i) q.inexact None);
       fifo = left i;
     }
+    )
 
 no_idle : (e a b c d : Bool) → (not e || a || b || c || d) ≡ false → (e ≡ true) × (c ≡ false) × (d ≡ false)
 no_idle true false false false false h = (refl, refl, refl)
@@ -210,19 +227,21 @@ plain_is frame h = λ i. record { octets = frame.octets; tag = h.untagged i }
 
 -- what a receive step leaves, by its tests
 received_by : (s : State) (idle a b : Bool) (r : Answer × State)
-    → is_idle (rx_setup s.registers) s.fifo ≡ idle
+    → is_idle (rx_control s) s.fifo ≡ idle
     → rx_stepped s (if idle then Ok (record { answer = rx_answer.Idle; memory = s.memory; fifo = s.fifo })
     else if a then Err rx_refusal.DmaRange
     else if b then Err rx_refusal.DmaRange
-    else Ok (delivery (rx_setup s.registers) s.memory s.fifo)) ≡ Ok r
+    else Ok (delivery (rx_control s) s.memory s.fifo)) ≡ Ok r
     → (rx_setup s.registers).buffer ≡ 2048 → s.fifo.taken ≡ 0 → All IsPlain s.fifo.frames
+    → is_null (rx_control s) (descriptor (rx_control s) s.memory) ≡ false
     → (r.1 ≡ s) ⊎ ((f : List ℕ) × (frames : List Frame) × ReceivesWhole s f frames r.1)
-received_by s true a b r is ok size none all = inl (ap (λ x. x.1) (sym (ok_is _ r ok)))
-received_by s false true b r is ok size none all = cc
-received_by s false false true r is ok size none all = cc
-received_by s false false false r is ok size none all =
-    let q = rx_setup s.registers in
-    let tests = no_idle q.enabled (nat_le q.count q.head) (nat_le q.count q.tail) (q.head == q.tail)
+received_by s true a b r is ok size none all given = inl (ap (λ x. x.1) (sym (ok_is _ r ok)))
+received_by s false true b r is ok size none all given = cc
+received_by s false false true r is ok size none all given = cc
+received_by s false false false r is ok size none all given =
+    let q = rx_control s in
+    let tests = no_idle q.setup.enabled (nat_le q.setup.count q.setup.head) (nat_le q.setup.count q.setup.tail)
+    (q.setup.head == q.setup.tail)
     (length s.fifo.frames == 0) is in
     let some = some_frame s.fifo.frames tests.2 in
     let good : IsPlain some.0 = subst IsPlain (ap (λ (fs : List Frame). slice_index_or fs 0 some.0) some.2)
@@ -234,13 +253,13 @@ received_by s false false false r is ok size none all =
     let now : r ≡ after_rx_answer (with_outcome s out) out.answer
     = sym (ok_is _ r ok)
     ∙ ap (λ (o : Outcome). after_rx_answer (with_outcome s o) o.answer)
-    (ap (delivery q s.memory) whole ∙ deliver_whole q s.memory f some.1 good.usual size) in
+    (ap (delivery q s.memory) whole ∙ deliver_whole q s.memory f some.1 good.usual size given) in
     inr (
       f,
       some.1,
       record {
         enabled = tests.0;
-        apart = eqb-false q.head q.tail tests.1;
+        apart = eqb-false q.setup.head q.setup.tail tests.1;
         first = first;
         usual = good.usual;
         registers = ap (λ x. x.1.registers) now;
@@ -256,11 +275,12 @@ received_by s false false false r is ok size none all =
 -- a receive step does nothing, or the FIFO's first frame goes whole into its buffer
 pub received_whole : (s : State) (r : Answer × State) → rx_step s ≡ Ok r
     → (rx_setup s.registers).buffer ≡ 2048 → s.fifo.taken ≡ 0 → All IsPlain s.fifo.frames
+    → is_null (rx_control s) (descriptor (rx_control s) s.memory) ≡ false
     → (r.1 ≡ s) ⊎ ((f : List ℕ) × (frames : List Frame) × ReceivesWhole s f frames r.1)
-received_whole s r ok size none all =
-    let q = rx_setup s.registers in
+received_whole s r ok size none all given =
+    let q = rx_control s in
     received_by s (is_idle q s.fifo) (leaves s.base s.memory (descriptor_at q) 16)
-    (leaves s.base s.memory (buffer_at q s.memory) (count_of q s.fifo)) r refl ok size none all
+    (is_outside q s.base s.memory s.fifo) r refl ok size none all given
 
 -- ---- transmit steps
 

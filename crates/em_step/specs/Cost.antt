@@ -3,10 +3,9 @@ use Rattle.std.specs.Prelude.{ℕ, ◌+◌, length, if◌then◌else◌}
 use Rattle.em_regs.specs.Table.{reg_at}
 use Rattle.em_step.specs.State.{State}
 use Rattle.em_step.specs.Event.{Event, reads, writes, pokes, arrives, links, receives, transmits}
-use Rattle.em_regs.specs.Setup.{rx_setup}
 use Rattle.em_rx.specs.Receive.{octets_written}
 use Rattle.em_tx.specs.Engine as tx
-use Rattle.em_step.specs.Engines.{sending, tx_control}
+use Rattle.em_step.specs.Engines.{rx_control, sending, tx_control}
 use Rattle.em_step.specs.Arrival.{arrival, octets_stored}
 use Rattle.em_step.specs.Step.{resets}
 use Rattle.em_step.specs.declared.undo.Record.{Record}
@@ -30,7 +29,7 @@ cost s (writes o v) = if resets (reg_at o) v then most_cost else least_cost
 cost s (pokes a octets) = least_cost + length octets
 cost s (arrives f) = least_cost + octets_stored s f (arrival s f).0
 cost s (links up) = least_cost
-cost s receives = least_cost + octets_written (rx_setup s.registers) s.fifo
+cost s receives = least_cost + octets_written (rx_control s) s.memory s.fifo
 cost s transmits = least_cost + tx.cost (tx_control s) (sending s)
 
 -- of the record that the event left

@@ -1,9 +1,15 @@
 -- The two engines, each of which handles one descriptor of its ring at a time: what a step of one answers and leaves.
-use Rattle.std.specs.Prelude.{ℕ, ◌+◌, ◌&&◌, not, Bool, Result, Ok, Err}
+use Rattle.std.specs.Prelude.{ℕ, ◌+◌, ◌&&◌, not, Bool, false, List, [], ◌∷◌, Result, Ok, Err}
 use Rattle.em_regs.specs.declared.reg.Reg.TheVariants.{Rdh, Tdh}
 use Rattle.em_regs.specs.RegFile.{put}
 use Rattle.em_regs.specs.Setup.{rx_setup, tx_setup}
+use Rattle.em_regs.specs.Storage.{Registers}
+use Rattle.em_regs.specs.declared.profile.Profile.{Profile}
 use Rattle.em_latch.specs.Latches.{after_raise}
+use Rattle.em_address.specs.Kind.{destination, source}
+use Rattle.em_filter.specs.Address.{is_inexact}
+use Rattle.em_rx.specs.Frame.{Frame}
+use Rattle.em_rx.specs.declared.control.RxControl.{RxControl}
 use Rattle.em_rx.specs.Receive as rx
 use Rattle.em_rx.specs.declared.step.RxAnswer.{RxAnswer}
 use Rattle.em_rx.specs.declared.step.RxAnswer.TheVariants as rx_answer
@@ -25,9 +31,22 @@ use Rattle.em_step.specs.declared.refusal.Refusal.{Refusal}
 use Rattle.em_step.specs.declared.refusal.Refusal.TheVariants.{DmaRange, Extended, TooLong, Memory}
 
 -- ---- receiving
--- the receive engine's step, by the registers of its ring
+-- no exact filter has the destination of the oldest of these frames, or its source
+abbrev pub comes_inexact : Profile → Registers → List Frame → Bool
+comes_inexact p m [] = false
+comes_inexact p m (frame ∷ frames) = is_inexact p m (destination frame.octets) (source frame.octets)
+
+-- what the receive engine goes by: the registers of its ring, the profile, and how the oldest frame comes past the filters
+abbrev pub rx_control : State → RxControl
+rx_control s = record {
+  setup = rx_setup s.registers;
+  profile = s.profile;
+  inexact = comes_inexact s.profile s.registers s.fifo.frames;
+}
+
+-- the receive engine's step
 abbrev pub received : State → Result rx.Outcome RxRefusal
-received s = rx.receive (rx_setup s.registers) s.base s.memory s.fifo
+received s = rx.receive (rx_control s) s.base s.memory s.fifo
 
 -- memory and the FIFO as the receive engine leaves them
 abbrev pub with_outcome : State → rx.Outcome → State

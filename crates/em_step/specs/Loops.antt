@@ -1,5 +1,5 @@
 -- Loopback: whether what is sent comes back.
-use Rattle.std.specs.Prelude.{ℕ, ◌/◌, ◌%◌, ◌^◌, ◌==◌, ◌&&◌, ◌||◌, not, Bool, slice_index}
+use Rattle.std.specs.Prelude.{◌/◌, ◌%◌, ◌^◌, ◌==◌, ◌&&◌, ◌||◌, not, Bool, slice_index}
 use Rattle.em_step.specs.Arrival.{rctl}
 use Rattle.em_step.specs.State.{State, is_adapter}
 

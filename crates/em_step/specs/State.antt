@@ -1,5 +1,5 @@
 -- What an adapter shows, as data.
-use Rattle.std.specs.Prelude.{◌≡◌, ℕ, Bool, true, false, List, Option, refl, if◌then◌else◌}
+use Rattle.std.specs.Prelude.{◌≡◌, ℕ, Bool, true, false, List, Option, refl}
 use Rattle.std.specs.Coded.{Coded, code_by, coded×, coded_list, coded_ℕ, coded_bool, coded_option}
 use Rattle.em_regs.specs.declared.profile.Profile.{Profile}
 use Rattle.em_regs.specs.declared.profile.Profile.TheVariants.{Table, Adapter}

@@ -1,5 +1,5 @@
 -- What a record puts back, and when it can be put back into an adapter.
-use Rattle.std.specs.Prelude.{◌≡◌, ℕ, ◌+◌, ◌*◌, ◌/◌, ◌%◌, ◌==◌, ◌≤◌, Bool, List, length, take}
+use Rattle.std.specs.Prelude.{◌≡◌, ℕ, ◌+◌, ◌*◌, ◌/◌, ◌%◌, ◌==◌, ◌≤◌, Bool, if◌then◌else◌, List, length, take}
 use Rattle.std.specs.Int.{w32, from_le_bytes}
 use Rattle.em_mem.specs.Memory as memory
 use Rattle.em_mem.specs.OldOctets.{Keeps, OldOctets, given_up, seen_from}
@@ -67,12 +67,15 @@ abbrev pub address : ℕ → ℕ → ℕ
 address high low = low + 0x1_0000_0000 * high
 
 -- ---- a receive step's record in five numbers: two addresses, so many octets, whether the frame left, and a place of 25
--- bits among old octets
+-- bits among old octets. The frame leaves with a piece of one octet, so one that stays with that length has none
+abbrev pub piece_len : ℕ → ℕ
+piece_len word = if word % 0x8000 == 0 then 0 else word % 0x4000 + 1
+
 abbrev pub piece : ℕ → ℕ → ℕ → ℕ → ℕ → OldPiece
 piece high word low end rest = record {
   buffer = address high low;
   end_at = address (rest / 0x100_0000) end;
-  len = word % 0x4000 + 1;
+  len = piece_len word;
   left = word / 0x4000 % 2 == 1;
 }
 

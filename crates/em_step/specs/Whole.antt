@@ -1,6 +1,6 @@
 -- What arrivals and engine steps leave where each frame has one descriptor, and lies whole in its buffer.
 use Rattle.std.specs.Prelude.{◌≡◌, ◌≢◌, ◌⊎◌, ℕ, ◌+◌, ◌-◌, ◌/◌, ◌%◌, ◌≤◌, true, List, [], ◌∷◌, ◌++◌, length}
-use Rattle.std.specs.Prelude.{replicate, slice_index, None}
+use Rattle.std.specs.Prelude.{if◌then◌else◌, replicate, slice_index, None}
 use Rattle.em_mem.specs.Memory.{LiesIn, part, put}
 use Rattle.em_regs.specs.declared.reg.Reg.TheVariants.{Rdh, Tdh, Rdt, Tdt}
 use Rattle.em_regs.specs.RegFile as registers
@@ -12,7 +12,7 @@ use Rattle.em_tx.specs.Control.{first}
 use Rattle.em_tx.specs.Descriptor.{address, length_of}
 use Rattle.em_tx.specs.Ring as tx
 use Rattle.em_step.specs.Arrival.{is_enabled}
-use Rattle.em_step.specs.Engines.{tx_control}
+use Rattle.em_step.specs.Engines.{rx_control, tx_control}
 use Rattle.em_step.specs.State.{State}
 use Rattle.em_step.specs.declared.event.Answer.{Answer}
 use Rattle.em_step.specs.declared.event.Answer.TheVariants.{Stored, Dropped}
@@ -56,9 +56,9 @@ pub record ReceivesWhole (s : State) (f : List ℕ) (frames : List Frame) (t : S
   pub base : t.base ≡ s.base
   pub memory :
       t.memory
-      ≡ put (put s.memory (rx.buffer_at (rx_setup s.registers) s.memory) f)
-      (rx.descriptor_at (rx_setup s.registers) + 8)
-      (length f % 256 ∷ length f / 256 ∷ 0 ∷ 0 ∷ 0x07 ∷ 0 ∷ 0 ∷ 0 ∷ [])
+      ≡ put (put s.memory (rx.buffer_at (rx_control s) s.memory) f)
+      (rx.descriptor_at (rx_control s) + 8)
+      (length f % 256 ∷ length f / 256 ∷ 0 ∷ 0 ∷ (if (rx_control s).inexact then 0x87 else 0x07) ∷ 0 ∷ 0 ∷ 0 ∷ [])
   pub fifo : t.fifo ≡ record { frames = frames; taken = 0 }
   pub gathered : t.gathered ≡ s.gathered
   pub wire : t.wire ≡ s.wire

@@ -11,11 +11,13 @@ ghost use Rattle.em_eeprom.specs.Eeprom.{IsEeprom, mac_of};
 ghost use Rattle.em_filter.specs.Bits.{takes_long, vme};
 ghost use Rattle.em_pins.specs.Wire.{IsSelected, clocks_in, clocks_out, number_from, read_command};
 ghost use Rattle.em_rx.specs.Frame.{Frame};
+ghost use Rattle.em_rx.specs.Receive.{descriptor, is_null};
 ghost use Rattle.em_step.specs.State.{State, status};
 ghost use Rattle.em_step.specs.Access.{gives, reset, after_eeprom_read};
 ghost use Rattle.em_step.specs.Arrival.{keeps_sequence};
 ghost use Rattle.em_step.specs.Cells.{Cells, fresh_as, shows, MorePages};
 ghost use Rattle.em_step.specs.Undo.{Fits, Undo, undo};
+ghost use Rattle.em_step.specs.Engines.{rx_control};
 ghost use Rattle.em_step.specs.Event.{Event, arrives, receives, transmits};
 ghost use Rattle.em_step.specs.Needs.{over, rx_needs, taken_into, tx_needs};
 ghost use Rattle.em_step.specs.Step.{step};
@@ -74,6 +76,7 @@ pub fn whole_frames()
         KeepsAllButFifo s r.1 × Admits s f r.0 r.1 }
     ensures receives { (s : State) (r : Answer × State) → step s receives ≡ Ok r →
         (rx_setup s.registers).buffer ≡ 2048 → s.fifo.taken ≡ 0 → All IsPlain s.fifo.frames →
+        is_null (rx_control s) (descriptor (rx_control s) s.memory) ≡ false →
         (r.1 ≡ s) ⊎ ((f : List ℕ) × (frames : List Frame) × ReceivesWhole s f frames r.1) }
     ensures transmits { (s : State) (r : Answer × State) → step s transmits ≡ Ok r →
         (tx_setup s.registers).vlan ≡ None → (tx_setup s.registers).pad ≡ true → s.gathered ≡ [] →

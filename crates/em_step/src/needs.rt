@@ -19,7 +19,7 @@ impl Adapter {
         ensures reads { AreHeld (shows self.now).base (shows self.now).memory result.reads }
         ensures writes { AreHeld (shows self.now).base (shows self.now).memory result.writes }
     {
-        self.fifo.needs(&self.memory, &self.registers.ring_rx())
+        self.fifo.needs(&self.memory, &self.rx_control())
     }
 
     /// The same of the transmit engine.

@@ -2,11 +2,12 @@
 //! sixteen, of which one says what it is of.
 ghost use Rattle.std.specs.Prelude.{◌≡◌, ◌%◌, ◌+◌, ◌≤◌, ◌<◌, ◌^◌, if◌then◌else◌};
 ghost use Rattle.em_rx.specs.RxStep.{IsSmall};
-ghost use Rattle.em_step.specs.Undo.{address, piece, place_of};
+ghost use Rattle.em_step.specs.Undo.{address, piece, piece_len, place_of};
 
 use em_rx::OldPiece;
 
-/// How many numbers 14 bits have: a piece has 1 to so many octets.
+/// How many numbers 14 bits have: a piece has so many octets at most. Its length less one is kept; the frame leaves with a
+/// piece of one octet, so one that stays with 0 there has no octet.
 const LENGTHS: u16 = 0x4000;
 
 /// Above the length: the frame left the FIFO with the piece.
@@ -37,7 +38,7 @@ pub(crate) fn packed(old: &OldPiece, place: usize) -> (u8, u16, u32, u32, u32)
     let (top, end) = parts_of(old.end_at);
     (
         high,
-        (old.len - 1) + left + far,
+        old.len.saturating_sub(1) + left + far,
         low,
         end,
         u32::from(top) * PLACES + near,
@@ -71,9 +72,12 @@ pub(crate) fn piece_of(high: u8, word: u16, low: u32, end: u32, rest: u32) -> Ol
 /// How many octets the piece has.
 #[inline]
 pub(crate) fn len_of(word: u16) -> u16
-    ensures len { result ≡ word % 0x4000 + 1 }
+    ensures len { result ≡ piece_len word }
     ensures most { result ≤ 16_384 }
 {
+    if word % FAR == 0 {
+        return 0;
+    }
     word % LENGTHS + 1
 }
 

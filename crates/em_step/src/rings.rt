@@ -1,11 +1,13 @@
 //! The rings as the registers set them up.
-ghost use Rattle.std.specs.Prelude.{◌≡◌};
+ghost use Rattle.std.specs.Prelude.{◌≡◌, ◌<◌, ◌^◌};
 ghost use Rattle.em_regs.specs.Setup.{rx_setup, tx_setup};
 ghost use Rattle.em_step.specs.Cells.{shows};
-ghost use Rattle.em_step.specs.Engines.{is_halted, tx_control};
+ghost use Rattle.em_step.specs.Engines.{comes_inexact, is_halted, rx_control, tx_control};
 
 use crate::adapter::Adapter;
+use em_filter::is_inexact;
 use em_regs::{Profile, RxSetup, TxSetup};
+use em_rx::RxControl;
 use em_tx::TxControl;
 
 impl Adapter {
@@ -21,6 +23,42 @@ impl Adapter {
         ensures { result ≡ tx_setup (shows self.now).registers }
     {
         self.registers.ring_tx()
+    }
+
+    /// What a step of the receive engine goes by.
+    #[inline(always)]
+    pub(crate) fn rx_control(&self) -> RxControl
+        ensures control { result ≡ rx_control (shows self.now) }
+        ensures count { result.setup.count < 2 ^ 28 }
+    {
+        RxControl {
+            setup: self.registers.ring_rx(),
+            profile: self.profile(),
+            inexact: self.comes_inexact(),
+        }
+    }
+
+    /// No exact filter has the oldest frame's destination, or its source, by the registers as they are: in the second
+    /// profile alone.
+    #[inline(always)]
+    #[tactic(auto, using(crate::proofs::InexactLaws::exact_in_the_first))]
+    fn comes_inexact(&self) -> bool
+        ensures { result ≡ comes_inexact (shows self.now).profile (shows self.now).registers (shows self.now).fifo.frames }
+    {
+        matches!(self.profile(), Profile::Adapter) && self.has_inexact()
+    }
+
+    /// The same of a frame that waits, in any profile.
+    #[inline(never)]
+    #[tactic(auto, using(crate::proofs::InexactLaws::none_comes, crate::proofs::InexactLaws::first_comes))]
+    fn has_inexact(&self) -> bool
+        ensures { result ≡ comes_inexact (shows self.now).profile (shows self.now).registers (shows self.now).fifo.frames }
+    {
+        let Some(frame) = self.fifo.first_frame() else {
+            return false;
+        };
+        let (to, from) = frame.addresses();
+        is_inexact(self.profile(), &self.registers, &to, &from)
     }
 
     /// What a step of the transmit engine goes by.

@@ -1,11 +1,10 @@
 -- No event goes by registers and bits that have no rule.
 use Rattle.std.proofs.Common.{◌≡◌, ◌≢◌, ◌∙◌, arith, ◌==◌, ◌&&◌, ◌||◌, ℕ, ◌+◌, ◌*◌, ◌/◌, ◌%◌, ◌^◌, Bool, true, false, not}
-use Rattle.std.proofs.Common.{List, [], ◌∷◌, length, map, filter, refl, sym, ap, subst, Option, Some, None, Ok, Err}
+use Rattle.std.proofs.Common.{List, [], ◌∷◌, length, refl, sym, ap, subst, Option, Some, None, Ok, Err}
 use Rattle.std.proofs.Common.{Result, cond, if◌then◌else◌, slice_index, nat_le, nat_lt}
 use Rattle.std.specs.Prelude.{bit_and}
 use Rattle.std.specs.FinMap.{insert}
 use Rattle.std.specs.Ordering.{nat_cmp, eq_by_cmp}
-use Rattle.std.specs.List.{list_any, range_with_len}
 use Rattle.em_mem.specs.Memory as memory
 use Rattle.em_regs.specs.declared.reg.Reg.{Reg}
 use Rattle.em_regs.specs.declared.profile.Profile.{Profile}
@@ -23,7 +22,7 @@ use Rattle.em_regs.specs.declared.table.Kind.TheVariants.{EepromPins, PhyCommand
 use Rattle.em_regs.proofs.Entries.{at-insert, at-insert_other}
 use Rattle.em_latch.specs.Latches as latches
 use Rattle.em_eeprom.specs.Eeprom.{mac_of, word_at}
-use Rattle.em_filter.specs.Address.{accepts, has_source, is_in_table}
+use Rattle.em_filter.specs.Address.{accepts}
 use Rattle.em_filter.specs.Bits.{bam, is_second, rctl}
 use Rattle.em_filter.specs.Control.{is_other_control, is_pause, passes_dpf, passes_pmcf}
 use Rattle.em_regs.specs.Setup.{bit}
@@ -50,7 +49,9 @@ use Rattle.em_step.specs.Access as access
 use Rattle.em_step.specs.Arrival.{admission, after_arrived, arrival, is_enabled, judgement, keeps_sequence, kept_frame}
 use Rattle.em_step.specs.Arrival.{with_sequence}
 use Rattle.em_step.specs.Counts.{after_buffer_count, after_frame_count, after_miss_count}
-use Rattle.em_step.specs.Engines.{after_rx_answer, after_tx_answer, rx_step, rx_stepped, sending, tx_step, tx_stepped}
+use Rattle.em_filter.proofs.InexactLaws.{AgreeInExact, source_same, table_same}
+use Rattle.em_step.proofs.InexactLaws.{comes_same}
+use Rattle.em_step.specs.Engines.{after_rx_answer, after_tx_answer, rx_control, rx_step, rx_stepped, sending, tx_step, tx_stepped}
 use Rattle.em_step.specs.Engines.{tx_control, with_outcome, with_shown}
 use Rattle.em_step.specs.Event.{Event, reads, writes, pokes, arrives, links, receives, transmits}
 use Rattle.em_step_laws.specs.Inert.{AgreeInRules, Alike, IsNoRead}
@@ -203,18 +204,14 @@ tx_same m n h = λ i. record {
   vlan = if h.vme i then Some (h.vet i % 2 ^ 16) else None;
 }
 
-table_same : (m n : Registers) (a : ℕ) → AgreeInRules m n → is_in_table n a ≡ is_in_table m a
-unfolding is_in_table
-table_same m n a h = λ i.
-    list_any (λ b. b == a)
-    (map (λ k. h.ral k i + 2 ^ 32 * (h.rah k i % 2 ^ 16))
-    (filter (λ k. has (h.rah k i) (2 ^ 31) && h.rah k i / 2 ^ 16 % 4 == 0) (range_with_len 0 16)))
+exact_in : (m n : Registers) → AgreeInRules m n → AgreeInExact m n
+exact_in m n h = record { bam = h.bam; ral = h.ral; rah = h.rah }
 
 accepts_same : (m n : Registers) (a : ℕ) → AgreeInRules m n → accepts n a ≡ accepts m a
 unfolding accepts
 accepts_same m n a h = λ i.
     let hash : ℕ = a / 2 ^ (slice_index (36 ∷ 35 ∷ 34 ∷ 32 ∷ []) (h.mo i)) % 4096 in
-    table_same m n a h i || (is_unicast (kind_of a) && h.upe i) || (is_group (kind_of a) && h.mpe i)
+    table_same m n a (exact_in m n h) i || (is_unicast (kind_of a) && h.upe i) || (is_group (kind_of a) && h.mpe i)
     || (is_broadcast (kind_of a) && h.bam i)
     || (is_group (kind_of a) && bit (h.mta (hash / 32) i) (hash % 32))
 
@@ -223,12 +220,6 @@ unfolding passes_vlan
 vlan_same m n f h = λ i.
     let vid : ℕ = tag_of f % 4096 in
     not (h.vfe i && (nat_le 16 (length f) && type_of f == h.vet i) && not (bit (h.vfta (vid / 32) i) (vid % 32)))
-
-source_same : (p : Profile) (m n : Registers) (a : ℕ) → AgreeInRules m n → has_source p n a ≡ has_source p m a
-unfolding has_source
-source_same p m n a h = λ i.
-    is_second p && list_any (λ k. (has (h.rah k i) (2 ^ 31) && h.rah k i / 2 ^ 16 % 4 == 1)
-    && h.ral k i + 2 ^ 32 * (h.rah k i % 2 ^ 16) == a) (range_with_len 0 16)
 
 pmcf_same : (p : Profile) (m n : Registers) (f : List ℕ) → AgreeInRules m n → passes_pmcf p n f ≡ passes_pmcf p m f
 unfolding passes_pmcf
@@ -246,7 +237,7 @@ dpf_same p m n f h = λ i. not ((is_second p && h.dpf i) && is_pause f)
 verdict_same : (p : Profile) (m n : Registers) (f : List ℕ) → AgreeInRules m n → verdict p n f ≡ verdict p m f
 unfolding verdict
 verdict_same p m n f h = λ i.
-    if not (accepts_same m n (destination f) h i || (source_same p m n (source f) h i || pmcf_same p m n f h i))
+    if not (accepts_same m n (destination f) h i || (source_same p m n (source f) (exact_in m n h) i || pmcf_same p m n f h i))
     then outcome.Reject
     else if nat_lt (length f + 4) 64 then outcome.Undersize
     else if nat_lt (if (is_second p && h.sbp i) || h.lpe i then 16384 else 1522) (length f + 4) then outcome.Oversize
@@ -427,9 +418,15 @@ receive_alike : (s : State) (n : Registers) → AgreeInRules s.registers n
     → Alike (rx_step s) (rx_step (with_registers s n))
 receive_alike s n h =
     let t : State = with_registers s n in
-    let same : rx_step t ≡ rx_stepped t (rx.receive (rx_setup s.registers) s.base s.memory s.fifo)
-    = ap (λ q. rx_stepped t (rx.receive q s.base s.memory s.fifo)) (rx_same s.registers n h) in
-    subst (λ x. Alike (rx_step s) x) (sym same) (rx_by s n (rx.receive (rx_setup s.registers) s.base s.memory s.fifo) h)
+    let control : rx_control t ≡ rx_control s
+    = λ i. record {
+      setup = rx_same s.registers n h i;
+      profile = s.profile;
+      inexact = comes_same s.profile s.registers n s.fifo.frames (exact_in s.registers n h) i;
+    } in
+    let same : rx_step t ≡ rx_stepped t (rx.receive (rx_control s) s.base s.memory s.fifo)
+    = ap (λ q. rx_stepped t (rx.receive q s.base s.memory s.fifo)) control in
+    subst (λ x. Alike (rx_step s) x) (sym same) (rx_by s n (rx.receive (rx_control s) s.base s.memory s.fifo) h)
 
 tx_answered : (s : State) (n : Registers) (a : TxAnswer) → AgreeInRules s.registers n
     → Alike (Ok (after_tx_answer s a)) (Ok (after_tx_answer (with_registers s n) a))

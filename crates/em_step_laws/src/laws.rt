@@ -5,6 +5,7 @@ ghost use Rattle.em_regs.specs.Setup.{rx_setup};
 ghost use Rattle.em_rx.specs.Frame.{Frame};
 ghost use Rattle.em_rx.specs.Pieces.{GoesInPieces, IsDelivered};
 ghost use Rattle.em_step.specs.State.{State};
+ghost use Rattle.em_step.specs.Engines.{rx_control};
 ghost use Rattle.em_step.specs.Event.{Event};
 ghost use Rattle.em_step.specs.Arrival.{arrival};
 ghost use Rattle.em_regs.specs.declared.profile.Profile.{Profile};
@@ -29,11 +30,11 @@ pub fn fates()
 pub fn pieces()
     ensures { (s : State) (frame : Frame) (frames : List Frame) (j : ℕ) →
         IsReached s →
-        GoesInPieces (rx_setup s.registers) s.base s.memory frame j →
+        GoesInPieces (rx_control s) s.base s.memory frame j →
         s.fifo ≡ record { frames = frame ∷ frames; taken = 0 } →
         (t : State) × AreReceived j s t
         × (t.fifo ≡ record { frames = frames; taken = 0 })
-        × ((i : ℕ) → i < j → IsDelivered (rx_setup s.registers) s.memory t.memory frame j i) }
+        × ((i : ℕ) → i < j → IsDelivered (rx_control s) s.memory t.memory frame j i) }
 {}
 
 /// In every state that an adapter comes to, RDH can name each descriptor of the receive ring.

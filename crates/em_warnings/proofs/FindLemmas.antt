@@ -10,7 +10,7 @@ use Rattle.em_regs.specs.declared.ring.Ring.{Ring}
 use Rattle.em_warnings.specs.declared.flaw.Flaw.{Flaw}
 use Rattle.em_inspect.specs.Ring.{is_adapters, octets_at}
 use Rattle.em_regs.specs.Ring.{descriptor_at}
-use Rattle.em_warnings.specs.Descriptors.{first_flawed, first_from, has_flaw, is_flawed}
+use Rattle.em_warnings.specs.Descriptors.{first_flawed, has_flaw, is_flawed}
 
 same_some : {X : Type 0} (x y : X) → Some x ≡ Some y → x ≡ y
 same_some x y e = cc

@@ -1,7 +1,6 @@
 -- The rules about a ring's head.
 use Rattle.std.specs.Prelude.{ℕ, ◌+◌, ◌-◌, ◌%◌, ◌==◌, ◌&&◌, nat_le, nat_lt, not, if◌then◌else◌, Bool}
 use Rattle.std.specs.Prelude.{Option, Some, None, option_and_then}
-use Rattle.std.specs.Option.{option_map}
 use Rattle.em_regs.specs.declared.reg.Reg.{Reg}
 use Rattle.em_regs.specs.declared.ring.Ring.{Ring}
 use Rattle.em_journal.specs.View.{View}
@@ -28,7 +27,7 @@ past_head tail r was = if goes_past r.setup was then Some (warning.TailPastHead 
 
 abbrev pub tail_past_head : View → Reg → Option Warning
 tail_past_head v tail =
-    option_and_then (λ r. option_and_then (past_head tail r) (value_before v tail)) (ring_of_tail v.present.registers tail)
+    option_and_then (λ r. option_and_then (past_head tail r) (value_before v tail)) (ring_of_tail v.present tail)
 
 -- ---- head-while-enabled (manual, register descriptions of RDH and TDH: software writes them only before the unit is enabled)
 
@@ -40,4 +39,4 @@ moved head r was =
 
 abbrev pub head_while_enabled : View → Reg → Option Warning
 head_while_enabled v head =
-    option_and_then (λ r. option_and_then (moved head r) (value_before v head)) (ring_of_head v.present.registers head)
+    option_and_then (λ r. option_and_then (moved head r) (value_before v head)) (ring_of_head v.present head)

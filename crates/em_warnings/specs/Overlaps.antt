@@ -1,7 +1,7 @@
 -- The rule about receive buffers that lie over each other (this project's profile: the adapter writes each frame into a buffer of
 -- its own).
-use Rattle.std.specs.Prelude.{ℕ, ◌-◌, ◌==◌, nat_le, nat_lt, if◌then◌else◌, is_some, Bool, true, false, List, find}
-use Rattle.std.specs.Prelude.{Option, Some, None, option_and_then}
+use Rattle.std.specs.Prelude.{ℕ, ◌-◌, ◌==◌, nat_le, nat_lt, if◌then◌else◌, is_some, Bool, false, List, find}
+use Rattle.std.specs.Prelude.{Option, None, option_and_then}
 use Rattle.std.specs.Option.{option_map, option_map_or, option_or}
 use Rattle.std.specs.List.{range_with_len}
 use Rattle.em_regs.specs.declared.reg.Reg.{Reg}
@@ -52,6 +52,6 @@ given_over base memory r was =
 
 abbrev pub buffers_overlap : View → Reg → Option Warning
 buffers_overlap v reg.Rdt =
-    option_and_then (given_over v.present.base v.present.memory (rx_ring (rx_setup v.present.registers)))
+    option_and_then (given_over v.present.base v.present.memory (rx_ring v.present.profile (rx_setup v.present.registers)))
     (value_before v reg.Rdt)
 buffers_overlap v _ = None

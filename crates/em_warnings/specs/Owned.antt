@@ -1,7 +1,7 @@
 -- The rule about octets that a driver writes while they are the adapter's (manual, chapters on the descriptor queues: what lies
 -- between head and tail is the adapter's).
 use Rattle.std.specs.Prelude.{ℕ, ◌-◌, ◌%◌, ◌^◌, ◌&&◌, ◌||◌, if◌then◌else◌, Bool, false, List, find}
-use Rattle.std.specs.Prelude.{Option, Some, None}
+use Rattle.std.specs.Prelude.{Option, None}
 use Rattle.std.specs.Option.{option_map, option_map_or, option_or}
 use Rattle.std.specs.List.{range_with_len}
 use Rattle.em_regs.specs.Ring.{descriptor_at}
@@ -49,5 +49,5 @@ in_ring base memory write r =
 -- of the receive ring, or else of the transmit ring
 abbrev pub written_while_owned : State → Extent → Option Warning
 written_while_owned s write =
-    option_or (in_ring s.base s.memory write (rx_ring (rx_setup s.registers)))
-    (in_ring s.base s.memory write (tx_ring (tx_setup s.registers)))
+    option_or (in_ring s.base s.memory write (rx_ring s.profile (rx_setup s.registers)))
+    (in_ring s.base s.memory write (tx_ring s.profile (tx_setup s.registers)))

@@ -68,7 +68,7 @@ past_ring r =
 
 -- asked of a tail that is written; and where the ring is enabled, of its length and of what enables it
 abbrev pub tail_past_ring : State → Reg → Option Warning
-tail_past_ring s reg = option_and_then past_ring (ring_asked s.registers reg)
+tail_past_ring s reg = option_and_then past_ring (ring_asked s reg)
 
 -- ---- enabled-before-ring (manual, chapter on initialization: the ring is set up, and then EN is set)
 
@@ -78,7 +78,7 @@ without_ring control r =
     if r.setup.enabled && r.setup.count == 0 then Some (warning.EnabledBeforeRing control (length_of r.side)) else None
 
 abbrev pub enabled_before_ring : State → Reg → Option Warning
-enabled_before_ring s control = option_and_then (without_ring control) (ring_of_control s.registers control)
+enabled_before_ring s control = option_and_then (without_ring control) (ring_of_control s control)
 
 -- ---- ring-outside-memory (manual, chapters on the descriptor queues: the base is that of the ring in host memory)
 
@@ -95,7 +95,7 @@ outside_memory s tail r =
     if is_given r.setup && leaves_memory s r.setup then Some (warning.RingOutsideMemory tail r.setup.base) else None
 
 abbrev pub ring_outside_memory : State → Reg → Option Warning
-ring_outside_memory s tail = option_and_then (outside_memory s tail) (ring_of_tail s.registers tail)
+ring_outside_memory s tail = option_and_then (outside_memory s tail) (ring_of_tail s tail)
 
 -- ---- descriptor-unwritten (manual, chapters on the descriptor queues: what lies before the tail is ready)
 
@@ -104,7 +104,7 @@ given_unwritten v tail r =
     option_map (λ i. warning.DescriptorUnwritten tail i (descriptor_at r.setup i)) (first_flawed r.setup v flaw.Unwritten)
 
 abbrev pub descriptor_unwritten : View → Reg → Option Warning
-descriptor_unwritten v tail = option_and_then (given_unwritten v tail) (ring_of_tail v.present.registers tail)
+descriptor_unwritten v tail = option_and_then (given_unwritten v tail) (ring_of_tail v.present tail)
 
 -- ---- status-left (manual, chapters on packet reception and transmission: DD says that the adapter is done with a
 -- descriptor; that software clears it before is this project's profile)
@@ -119,7 +119,7 @@ given_with_status v tail r =
     option_map (λ i. warning.StatusLeft tail i (descriptor_at r.setup i)) (first_flawed r.setup v (left_flaw r.side))
 
 abbrev pub status_left : View → Reg → Option Warning
-status_left v tail = option_and_then (given_with_status v tail) (ring_of_tail v.present.registers tail)
+status_left v tail = option_and_then (given_with_status v tail) (ring_of_tail v.present tail)
 
 -- ---- interrupts-before-rings (this project's profile)
 

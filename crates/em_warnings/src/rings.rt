@@ -9,7 +9,7 @@ use em_regs::Reg;
 
 /// The ring whose tail a register is.
 pub(crate) fn ring_of_tail(machine: &Machine, reg: Reg) -> Option<SidedRing>
-    ensures { result ≡ ring_of_tail machine.now.present.registers reg }
+    ensures { result ≡ ring_of_tail machine.now.present reg }
 {
     match reg {
         Reg::Rdt => Some(SidedRing::rx(machine)),
@@ -20,7 +20,7 @@ pub(crate) fn ring_of_tail(machine: &Machine, reg: Reg) -> Option<SidedRing>
 
 /// The ring that a register enables.
 pub(crate) fn ring_of_control(machine: &Machine, reg: Reg) -> Option<SidedRing>
-    ensures { result ≡ ring_of_control machine.now.present.registers reg }
+    ensures { result ≡ ring_of_control machine.now.present reg }
 {
     match reg {
         Reg::Rctl => Some(SidedRing::rx(machine)),
@@ -31,7 +31,7 @@ pub(crate) fn ring_of_control(machine: &Machine, reg: Reg) -> Option<SidedRing>
 
 /// The ring whose head a register is.
 pub(crate) fn ring_of_head(machine: &Machine, reg: Reg) -> Option<SidedRing>
-    ensures { result ≡ ring_of_head machine.now.present.registers reg }
+    ensures { result ≡ ring_of_head machine.now.present reg }
 {
     match reg {
         Reg::Rdh => Some(SidedRing::rx(machine)),
@@ -43,7 +43,7 @@ pub(crate) fn ring_of_head(machine: &Machine, reg: Reg) -> Option<SidedRing>
 /// The ring of whose tail a write of a register asks: of a tail always; of a length and of what enables the ring where it is
 /// enabled then. Before, a driver may write them in any order.
 pub(crate) fn ring_asked(machine: &Machine, reg: Reg) -> Option<SidedRing>
-    ensures { result ≡ ring_asked machine.now.present.registers reg }
+    ensures { result ≡ ring_asked machine.now.present reg }
 {
     match reg {
         Reg::Rdlen | Reg::Rctl => where_enabled(SidedRing::rx(machine)),

@@ -24,7 +24,7 @@ use Rattle.em_turn.specs.Turn.{event_of, stored_by}
 use Rattle.em_turn.specs.declared.turn.Turn.{Turn}
 use Rattle.em_turn.specs.declared.turn.Turn.TheVariants.{Arrive, RxStep, TxStep}
 use Rattle.em_driver.proofs.order.Accessed.{ok_is}
-use Rattle.em_driver.proofs.rings.ReceiveRing.{no_sequences}
+use Rattle.em_driver.proofs.rings.ReceiveRing.{no_sequences, takes_octets}
 
 -- ---- transmitting is not enabled
 
@@ -95,7 +95,8 @@ off_turn s (Arrive f) r h is =
 off_turn s RxStep r h is = (
   received_off s r.1 h
       (received_whole s r is (ap buffer_size h.rctl) (ap (λ x. x.taken) h.fifo)
-      (subst (λ x. All IsPlain x.frames) (sym h.fifo) (λ k d low. absurd (omega arith)))),
+      (subst (λ x. All IsPlain x.frames) (sym h.fifo) (λ k d low. absurd (omega arith)))
+      (takes_octets s h.profile)),
   refl,
 )
 off_turn s TxStep r h is = (rests s r.1 (ap (λ x. x.1) (sym (tx_idle s r h.tctl is))), refl)

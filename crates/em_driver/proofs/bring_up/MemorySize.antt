@@ -5,17 +5,17 @@ use Rattle.std.specs.Prelude.{nat_lt}
 use Rattle.std.proofs.lemmas.List.{length-take}
 use Rattle.em_mem.specs.Memory.{leaves, put}
 use Rattle.em_mem.proofs.NeedsLaws.{lies_by_test}
-use Rattle.em_mem.proofs.PutLaws.{length-put}
-use Rattle.em_regs.specs.Setup.{rx_setup, tx_setup}
+use Rattle.em_mem.proofs.PutLaws.{length-part, length-put}
+use Rattle.em_regs.specs.Setup.{tx_setup}
 use Rattle.em_filter.specs.declared.outcome.Verdict.{Verdict}
 use Rattle.em_filter.specs.declared.outcome.Verdict.TheVariants as verdict
 use Rattle.em_filter.specs.Filters.{verdict as verdict_of}
-use Rattle.em_rx.specs.Descriptor.{written_back}
 use Rattle.em_rx.specs.Fifo.{Fifo, first, next}
 use Rattle.em_rx.specs.Receive as rx
 use Rattle.em_rx.specs.declared.step.RxAnswer.TheVariants as rx_answer
 use Rattle.em_rx.specs.declared.refusal.RxRefusal.TheVariants as rx_refusal
-use Rattle.em_regs.specs.declared.setup.RxSetup.{RxSetup}
+use Rattle.em_rx.specs.declared.control.RxControl.{RxControl}
+use Rattle.em_rx.proofs.ControlLaws.{length_back}
 use Rattle.em_regs.specs.declared.setup.TxSetup.{TxSetup}
 use Rattle.em_tx.specs.Cells.{Shown}
 use Rattle.em_tx.specs.Control.{first as first_of, is_still}
@@ -30,7 +30,7 @@ use Rattle.em_tx.specs.declared.refusal.TxRefusal.TheVariants as tx_refusal
 use Rattle.em_step.specs.Arrival.{arrival, is_enabled, judgement, lacks_room}
 use Rattle.em_step.specs.Arrival.{after_accept, after_arrived, after_miss}
 use Rattle.em_step.specs.Engines.{after_tx_answer, rx_stepped, rx_step, sending, tx_stepped, tx_step}
-use Rattle.em_step.specs.Engines.{tx_control, with_shown}
+use Rattle.em_step.specs.Engines.{rx_control, tx_control, with_shown}
 use Rattle.em_step.specs.State.{State}
 use Rattle.em_step.specs.Step.{step}
 use Rattle.em_step.specs.declared.event.Answer.{Answer}
@@ -86,40 +86,44 @@ written m a b d e one two =
     let size = length-put m a d one in
     length-put (put m a d) b e (omega (arith, size)) ∙ size
 
-delivered : (q : RxSetup) (m : List ℕ) (fifo : Fifo) → rx.descriptor_at q + 16 ≤ length m
-    → rx.buffer_at q m + rx.count_of q fifo ≤ length m → length (rx.after_write q m fifo) ≡ length m
+delivered : (q : RxControl) (m : List ℕ) (fifo : Fifo) → rx.descriptor_at q + 16 ≤ length m
+    → rx.place_of q (rx.descriptor q m) + rx.count_of q (rx.descriptor q m) fifo ≤ length m
+    → length (rx.after_write q m fifo) ≡ length m
 delivered q m fifo descriptor buffer =
-    let n : ℕ = rx.count_of q fifo in
+    let d : List ℕ = rx.descriptor q m in
+    let n : ℕ = rx.count_of q d fifo in
     let few : length (next fifo n) ≤ n = omega (arith, length-take n (drop fifo.taken (first fifo).octets)) in
-    let eight : length (written_back n (rx.is_last q fifo) (first fifo).tag) ≡ 8 = refl in
-    written m (rx.buffer_at q m) (rx.descriptor_at q + 8) (next fifo n)
-    (written_back n (rx.is_last q fifo) (first fifo).tag) (omega (arith, few)) (omega (arith, eight))
+    let eight : length (rx.back_of q d fifo) ≡ 8
+    = length_back q d fifo (length-part m (rx.descriptor_at q) 16 descriptor) in
+    written m (rx.place_of q d) (rx.descriptor_at q + 8) (next fifo n) (rx.back_of q d fifo)
+    (omega (arith, few, buffer)) (omega (arith, eight, descriptor))
 
 received_by : (s : State) (idle a b : Bool) (r : Answer × State)
-    → leaves s.base s.memory (rx.descriptor_at (rx_setup s.registers)) 16 ≡ a
-    → leaves s.base s.memory (rx.buffer_at (rx_setup s.registers) s.memory) (rx.count_of (rx_setup s.registers) s.fifo) ≡ b
+    → leaves s.base s.memory (rx.descriptor_at (rx_control s)) 16 ≡ a
+    → rx.is_outside (rx_control s) s.base s.memory s.fifo ≡ b
     → rx_stepped s (if idle then Ok (record { answer = rx_answer.Idle; memory = s.memory; fifo = s.fifo })
     else if a then Err rx_refusal.DmaRange
     else if b then Err rx_refusal.DmaRange
-    else Ok (rx.delivery (rx_setup s.registers) s.memory s.fifo)) ≡ Ok r
+    else Ok (rx.delivery (rx_control s) s.memory s.fifo)) ≡ Ok r
     → SameRange s r.1
 received_by s true a b r x y is = in_other (ap (λ z. z.1) (sym (ok_is _ r is))) (record { base = refl; size = refl })
 received_by s false true b r x y is = cc
 received_by s false false true r x y is = cc
 received_by s false false false r x y is =
-    let q = rx_setup s.registers in
+    let q = rx_control s in
+    let d : List ℕ = rx.descriptor q s.memory in
     in_other (ap (λ z. z.1) (sym (ok_is _ r is)))
     (record {
       base = refl;
       size = delivered q s.memory s.fifo (lies_by_test s.base s.memory (rx.descriptor_at q) 16 x).to
-          (lies_by_test s.base s.memory (rx.buffer_at q s.memory) (rx.count_of q s.fifo) y).to;
+          (lies_by_test s.base s.memory (rx.place_of q d) (rx.count_of q d s.fifo) y).to;
     })
 
 received : (s : State) (r : Answer × State) → rx_step s ≡ Ok r → SameRange s r.1
 received s r is =
-    let q = rx_setup s.registers in
+    let q = rx_control s in
     received_by s (rx.is_idle q s.fifo) (leaves s.base s.memory (rx.descriptor_at q) 16)
-    (leaves s.base s.memory (rx.buffer_at q s.memory) (rx.count_of q s.fifo)) r refl refl is
+    (rx.is_outside q s.base s.memory s.fifo) r refl refl is
 
 -- ---- transmit steps
 

@@ -23,7 +23,7 @@ use Rattle.em_turn.specs.declared.turn.Turn.{Turn}
 use Rattle.em_turn.specs.declared.turn.Turn.TheVariants.{Arrive, RxStep, TxStep}
 use Rattle.em_driver.proofs.rings.ReceiveRing.{RxMoves, rx_moves_on, rx_kept, rx_same, same_ring}
 use Rattle.em_driver.proofs.rings.ReceiveRing.{rx_writes, fills}
-use Rattle.em_driver.proofs.rings.ReceiveRing.{moves_fill, buffer_whole, no_long_frames, no_sequences}
+use Rattle.em_driver.proofs.rings.ReceiveRing.{moves_fill, buffer_whole, no_long_frames, no_sequences, takes_octets}
 use Rattle.em_driver.proofs.rings.TransmitRing.{TxMoves, tx_moves_on, SameTxRing, tx_same, same_tx_ring}
 use Rattle.em_driver.proofs.rings.TransmitRing.{sends, moves_send, is_whole}
 use Rattle.em_driver.proofs.rings.TransmitRing.{no_tags, pads}
@@ -134,7 +134,7 @@ received l s t laid h (inr (f, frames, r)) =
 pub receive_turn : (l : Layout) (s : State) (r : Answer × State) → IsLaidOut l s → IsReceivingBut l s
     → step s receives ≡ Ok r → RxTurn l s r.1 []
 receive_turn l s r laid h is =
-    received l s r.1 laid h (received_whole s r is (buffer_whole l s h) h.taken h.frames)
+    received l s r.1 laid h (received_whole s r is (buffer_whole l s h) h.taken h.frames (takes_octets s h.profile))
 
 rx_turn_moves : (l : Layout) (s t : State) (added : List (List ℕ)) → IsDrivenBut l s → RxTurn l s t added
     → Moves l s t added

@@ -1,8 +1,8 @@
 -- What waits, through arrivals and receive steps.
-use Rattle.std.proofs.Common.{◌≡◌, ◌≢◌, ◌∙◌, ℕ, ◌+◌, ◌*◌, ◌/◌, ◌<◌, ◌≤◌, Bool, true, false, List, [], ◌∷◌}
+use Rattle.std.proofs.Common.{◌≡◌, ◌≢◌, ◌∙◌, ℕ, ◌+◌, ◌*◌, ◌/◌, ◌%◌, ◌<◌, ◌≤◌, Bool, true, false, List, [], ◌∷◌}
 use Rattle.std.proofs.Common.{◌++◌}
 use Rattle.std.proofs.Common.{length, take, drop, refl, sym, ap, subst, inl, inr, arith, append_assoc, append-nil}
-use Rattle.std.specs.Prelude.{All, slice_index, ◌==◌, ◌&&◌, not, bit_and}
+use Rattle.std.specs.Prelude.{All, if◌then◌else◌, slice_index, ◌==◌, ◌&&◌, not, bit_and}
 use Rattle.std.proofs.lemmas.Bool.{cases_eq}
 use Rattle.std.proofs.lemmas.List.{map-append, take_at}
 use Rattle.std.proofs.lemmas.List.Elements.{All-append, All-rest}
@@ -16,11 +16,14 @@ use Rattle.em_regs.specs.declared.profile.Profile.TheVariants.{Table}
 use Rattle.em_regs.specs.declared.reg.Reg.TheVariants.{Rctl, Rdh, Rdt}
 use Rattle.em_regs.specs.RegFile as registers
 use Rattle.em_regs.specs.Setup.{value_of, rx_setup, buffer_size}
+use Rattle.em_rx.specs.Control.{is_null_at}
 use Rattle.em_regs.specs.Storage.{Registers}
 use Rattle.em_filter.specs.Bits.{takes_long}
 use Rattle.em_rx.specs.Frame.{Frame}
 use Rattle.em_rx.specs.Receive as rx
 use Rattle.em_step.specs.Arrival.{keeps_sequence}
+use Rattle.em_step.specs.Engines.{comes_inexact, rx_control}
+use Rattle.em_step.proofs.InexactLaws.{exact_in_the_first}
 use Rattle.em_step.specs.State.{State, is_adapter}
 use Rattle.em_step.specs.Access.{has}
 use Rattle.em_step.specs.Whole.{IsUsual, IsPlain, plain, ReceivesWhole}
@@ -276,10 +279,27 @@ pub record RxWrites (l : Layout) (s t : State) (f : List ℕ) : Type 0 where
   pub packet : Writes l s.memory mid rx_buffers (rdh s) 0 f
   pub back : Writes l mid t.memory rx_ring (rdh s) 8 (filled_back (length f))
 
+-- the first profile tells of no frame that it came past an inexact filter
+none_inexact : (s : State) → s.profile ≡ Table → (rx_control s).inexact ≡ false
+none_inexact s first =
+    ap (λ (p : Profile). comes_inexact p s.registers s.fifo.frames) first
+    ∙ exact_in_the_first s.registers s.fifo.frames
+
+-- and each of its descriptors takes octets
+takes_all : (a : ℕ) → is_null_at Table a ≡ false
+unfolding is_null_at
+takes_all a = refl
+
+pub takes_octets : (s : State) → s.profile ≡ Table →
+    rx.is_null (rx_control s) (rx.descriptor (rx_control s) s.memory) ≡ false
+takes_octets s first =
+    let a : ℕ = rx.buffer_at (rx_control s) s.memory in
+    ap (λ (p : Profile). is_null_at p a) first ∙ takes_all a
+
 pub rx_writes : (l : Layout) (s t : State) (f : List ℕ) (frames : List Frame) → IsLaidOut l s → IsReceivingBut l s
     → ReceivesWhole s f frames t → RxWrites l s t f
 rx_writes l s t f frames laid h r =
-    let q = rx_setup s.registers in
+    let q = rx_control s in
     let b : ℕ = rdh s in
     let at : rx.descriptor_at q ≡ rx_descriptor l b = ap (λ x. x + 16 * b) h.base in
     let buffer : rx.buffer_at q s.memory ≡ rx_buffer l b
@@ -291,7 +311,12 @@ rx_writes l s t f frames laid h r =
       mid = mid;
       packet = one;
       back = writes l mid t.memory rx_ring b 8 (filled_back (length f)) (good_same l refl one.size laid.good) h.head (omega arith)
-          (r.memory ∙ λ p. put (put s.memory ((buffer ∙ zero) p) f) (at p + 8) (filled_back (length f)));
+          (
+          r.memory
+          ∙ λ p. put (put s.memory ((buffer ∙ zero) p) f) (at p + 8)
+          (length f % 256 ∷ length f / 256 ∷ 0 ∷ 0
+          ∷ (if none_inexact s h.profile p then 0x87 else 0x07) ∷ 0 ∷ 0 ∷ 0 ∷ [])
+          );
     }
 
 pub fills : (l : Layout) (s t : State) (f : List ℕ) (frames : List Frame) → IsLaidOut l s → IsReceivingBut l s

@@ -1,5 +1,5 @@
 use Rattle.std.proofs.Common.{◌≡◌, ◌∙◌, [], ◌++◌, List, ℕ, ap, subst, append-nil}
-use Rattle.std.specs.Prelude.{codes, decimal}
+use Rattle.std.specs.Prelude.{codes}
 use Rattle.em_text.specs.Writer.{Writes}
 use Rattle.em_inspect.specs.TroubleText.{over_text}
 use Rattle.em_inspect.proofs.descriptor_line.write_over.Goals as goal

@@ -1,4 +1,4 @@
-use Rattle.std.proofs.Common.{◌≡◌, ◌∙◌, ℕ, List, ◌+◌, ◌-◌, ◌*◌, ◌++◌, ap, ap₂, subst, sym}
+use Rattle.std.proofs.Common.{◌∙◌, ℕ, List, ◌+◌, ◌-◌, ◌*◌, ◌++◌, ap, ap₂, subst, sym}
 use Rattle.em_mem.specs.Memory.{part}
 use Rattle.em_text.specs.Writer.{Writes}
 use Rattle.em_inspect.specs.Lines.{line_text}

@@ -1,4 +1,4 @@
-use Rattle.std.proofs.Common.{◌≡◌, ◌∙◌, ℕ, Bool, List, ◌++◌, sym, ap}
+use Rattle.std.proofs.Common.{◌∙◌, ℕ, Bool, List, ◌++◌, sym, ap}
 use Rattle.std.proofs.lemmas.Result.{MatchResult-from_err}
 use Rattle.em_text.proofs.WritingLemmas.{Writes-more, WritesPart-front}
 use Rattle.em_inspect.specs.RingText.{descriptors_text, ring_line, shown}

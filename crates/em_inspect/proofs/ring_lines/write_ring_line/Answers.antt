@@ -1,7 +1,7 @@
 use Rattle.std.proofs.Common.{◌≡◌, Bool, true, false, List, ℕ, refl, subst, ne_eqb}
 use Rattle.std.specs.Prelude.{if◌then◌else◌}
 use Rattle.em_text.specs.Writer.{Writes}
-use Rattle.em_inspect.specs.RingText.{empty_line, full_line, ring_line}
+use Rattle.em_inspect.specs.RingText.{empty_line, full_line}
 use Rattle.em_inspect.proofs.ring_lines.write_ring_line.Goals as goal
 
 -- where a test does not hold

@@ -10,7 +10,7 @@ returns g c =
     record {
       writes = subst (λ (text : List ℕ).
           Writes (contents c.args.writer.now) (contents c.write_ring.new.writer) c.write_ring.result text)
-          (window_of s.registers c.args.side s.base s.memory c.ring_of-ring.result c.shown_from.result
+          (window_of s c.args.side s.base s.memory c.ring_of-ring.result c.shown_from.result
           c.ring_of-ring.ensures
           c.shown_from.ensures) c.write_ring.ensures.writes;
     }

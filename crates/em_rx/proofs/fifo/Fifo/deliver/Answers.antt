@@ -45,9 +45,9 @@ returns-clause-reverses c =
     ∙ second-saved under end c.args.old.now c.save.new.old o c.save.ensures c.save-2.ensures
     (omega (arith, size, eight, c.requires.old_room)) in
     let d = next (shows v) r.len in
-    let e = c.written_back-end.result in
+    let e = c.args.end.now in
     let size_d : length d ≡ r.len = length-next (shows v) r.len c.requires.count in
-    let size_e : length e ≡ 8 = ap length c.written_back-end.ensures in
+    let size_e : length e ≡ 8 = c.requires.eight in
     let count : length p.first.octets ≡ r.len = ap length first ∙ size in
     let same : new ≡ record v { places = c.places_after-self-inside.result }
     = ap (λ (x : Cells). let s : Cells = record x { places = c.places_after-self-inside.result } in s) c.self.view_is in

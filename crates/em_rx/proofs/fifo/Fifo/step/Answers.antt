@@ -13,7 +13,7 @@ returns-clause-held c =
 
 pub returns-clause-most : goal.returns-clause-most
 returns-clause-most c =
-    omega (arith, returns-clause-held c, most_written c.args.setup (shows c.args.self.now) c.requires.buffer)
+    omega (arith, returns-clause-held c, most_written c.args.control c.args.memory.now.octets (shows c.args.self.now) c.requires.buffer)
 
 pub returns-clause-whole : goal.returns-clause-whole
 returns-clause-whole c =
