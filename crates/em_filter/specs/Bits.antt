@@ -1,5 +1,5 @@
 -- What the filters read of the registers, by the manual's names.
-use Rattle.std.specs.Prelude.{ℕ, ◌/◌, ◌%◌, ◌^◌, ◌==◌, ◌&&◌, ◌||◌, Bool, true, false}
+use Rattle.std.specs.Prelude.{ℕ, ◌/◌, ◌%◌, ◌^◌, ◌&&◌, ◌||◌, Bool, true, false}
 use Rattle.em_regs.specs.declared.profile.Profile.{Profile}
 use Rattle.em_regs.specs.declared.profile.Profile.TheVariants.{Table, Adapter}
 use Rattle.em_regs.specs.declared.reg.Reg.TheVariants.{Ctrl, Vet, Rctl, Mta, Ral, Rah, Vfta}

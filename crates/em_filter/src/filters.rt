@@ -1,7 +1,11 @@
 //! What the filters say of a frame.
-ghost use Rattle.std.specs.Prelude.{◌≡◌, ◌≤◌, length};
+ghost use Rattle.std.specs.Prelude.{◌≡◌, ◌≤◌, ◌&&◌, ◌||◌, length};
 ghost use Rattle.em_address.specs.Kind.{destination, source};
+ghost use Rattle.em_filter.specs.Address.{has_source};
+ghost use Rattle.em_filter.specs.Control.{passes_dpf, passes_pmcf};
 ghost use Rattle.em_filter.specs.Filters.{longest, passes_address, passes_others, verdict};
+ghost use Rattle.em_filter.specs.Vlan.{passes_cfi};
+ghost use Rattle.em_regs.specs.declared.profile.Profile.TheVariants.{Adapter};
 
 use crate::address::{accepts, has_source};
 use crate::bits;
@@ -32,7 +36,7 @@ pub fn verdict(profile: Profile, regs: &RegFile, frame: &[u8]) -> Verdict
 {
     let octets = frame.len() + CHECK_OCTETS;
     let to = destination(frame);
-    if !passes_address(profile, regs, &to, &source(frame), frame) {
+    if !accepts(regs, &to) && !passes_as_second(profile, regs, frame) {
         Verdict::Reject
     } else if octets < FEWEST {
         Verdict::Undersize
@@ -61,12 +65,48 @@ pub fn passes_address(
     accepts(regs, to) || has_source(profile, regs, from) || passes_pmcf(profile, regs, frame)
 }
 
+/// Whether the address filter takes a frame to whatever destination: in the second profile alone. The first one's way
+/// is short, and does not read the source.
+#[inline(always)]
+#[tactic(auto, unfolding(crate::specs::Address::has_source, crate::specs::Control::passes_pmcf))]
+fn passes_as_second(profile: Profile, regs: &RegFile, frame: &[u8]) -> bool
+    requires { 12 ≤ length frame.now }
+    ensures { result ≡ (has_source profile regs.now (source frame.now) || passes_pmcf profile regs.now frame.now) }
+{
+    match profile {
+        Profile::Table => false,
+        Profile::Adapter => passes_to_any(regs, frame),
+    }
+}
+
+/// Whether the second profile's address filter takes a frame by its source, or as a MAC control frame.
+#[inline(never)]
+fn passes_to_any(regs: &RegFile, frame: &[u8]) -> bool
+    requires { 12 ≤ length frame.now }
+    ensures { result ≡ (has_source Adapter regs.now (source frame.now) || passes_pmcf Adapter regs.now frame.now) }
+{
+    has_source(Profile::Adapter, regs, &source(frame)) || passes_pmcf(Profile::Adapter, regs, frame)
+}
+
 /// Whether the other filters let a frame pass: the VLAN filter, and in the second profile also those of the CFI and of
 /// pause frames.
+#[inline(always)]
+#[tactic(auto, unfolding(crate::specs::Vlan::passes_cfi, crate::specs::Control::passes_dpf))]
 fn passes_others(profile: Profile, regs: &RegFile, frame: &[u8]) -> bool
     ensures { result ≡ passes_others profile regs.now frame.now }
 {
-    passes_vlan(regs, frame) && passes_cfi(profile, regs, frame) && passes_dpf(profile, regs, frame)
+    match profile {
+        Profile::Table => passes_vlan(regs, frame),
+        Profile::Adapter => passes_vlan(regs, frame) && passes_cfi_and_dpf(regs, frame),
+    }
+}
+
+/// Whether the second profile's filters of the CFI and of pause frames let a frame pass.
+#[inline(never)]
+fn passes_cfi_and_dpf(regs: &RegFile, frame: &[u8]) -> bool
+    ensures { result ≡ (passes_cfi Adapter regs.now frame.now && passes_dpf Adapter regs.now frame.now) }
+{
+    passes_cfi(Profile::Adapter, regs, frame) && passes_dpf(Profile::Adapter, regs, frame)
 }
 
 /// The source address of a frame.

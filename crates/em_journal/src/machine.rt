@@ -190,6 +190,7 @@ impl Machine {
     }
 
     /// Software reads or writes at an offset where no register lies.
+    #[cold]
     #[inline(never)]
     fn access_none(&mut self, offset: u32) -> Result<(), Refusal>
         requires { reg_of self.old.present.profile offset ≡ None }
@@ -291,6 +292,7 @@ impl Machine {
         value
     }
 
+    #[cold]
     #[inline(never)]
     fn read_other(&mut self, reg: Reg) -> u32
         requires { IsRegOf self.old.present.profile reg }
@@ -325,6 +327,7 @@ impl Machine {
             .keep(&mut self.adapter, self.budget, LEAST_COST, newest);
     }
 
+    #[cold]
     #[inline(never)]
     fn write_other(&mut self, reg: Reg, value: u32) -> Result<(), Refusal>
         requires { IsRegOf self.old.present.profile reg }

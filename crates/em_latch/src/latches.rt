@@ -290,7 +290,7 @@ impl Latches {
     }
 
     /// Clears both words of a pair, and gives the high one.
-    #[inline(always)]
+    #[inline(never)]
     fn clear_both(&mut self, low: Reg, high: Reg, undo: &mut LatchUndo) -> u32
         requires low { IsWord low }
         requires high { IsWord high }

@@ -122,6 +122,7 @@ impl Fifo {
     /// Stores a frame, which comes last: a tagged one without its octets 12 to 15. What it overwrites is
     /// saved before other old octets. Refused for `Memory` alone, where a tagged frame's copy finds none, or
     /// old octets no room; the FIFO and the old octets then stay.
+    #[inline(always)]
     pub fn store(
         &mut self,
         frame: &[u8],

@@ -676,7 +676,8 @@ impl Adapter {
         let (profile, mac) = (self.profile, self.eeprom.mac());
         before.registers.reset_from(&self.registers, profile, mac);
         std::mem::swap(&mut self.registers, &mut before.registers);
-        before.latches = std::mem::replace(&mut self.latches, Latches::new());
+        before.latches = self.latches.copy();
+        self.latches = Latches::new();
         before.places = self.fifo.empty_out();
         before.gathered = self.gather.clear();
         kept

@@ -34,16 +34,7 @@ pub(crate) fn count_arrived(latches: &mut Latches, profile: Profile, octets: u32
     ensures octets { octets_of result ≤ 5 }
     ensures reverses { Reverses latches.old latches.new result }
 {
-    let mut undo = LatchUndo::none();
-    count_total(
-        latches,
-        profile,
-        Counter::Tpr,
-        Counter::Tor,
-        octets,
-        &mut undo,
-    );
-    undo
+    count_total(latches, profile, Counter::Tpr, Counter::Tor, octets)
 }
 
 /// Counts a frame among all, where the profile does.
@@ -54,33 +45,31 @@ fn count_total(
     frames: Counter,
     octets: Counter,
     by: u32,
-    undo: &mut LatchUndo,
-)
+) -> LatchUndo
     requires frames { octets_for_count frames 1 ≡ 1 }
     requires octets { octets_for_count octets by ≤ 4 }
-    requires room { octets_of undo.old ≡ 0 }
     ensures state { latches.new ≡ after_total profile frames octets by latches.old }
-    ensures octets { octets_of undo.new ≤ 5 }
-    ensures reverses { (base : Registers) → Reverses base latches.old undo.old → Reverses base latches.new undo.new }
+    ensures octets { octets_of result ≤ 5 }
+    ensures reverses { Reverses latches.old latches.new result }
 {
     match profile {
-        Profile::Table => {}
-        Profile::Adapter => count_all(latches, frames, octets, by, undo),
+        Profile::Table => LatchUndo::none(),
+        Profile::Adapter => count_all(latches, frames, octets, by),
     }
 }
 
 /// Counts a frame among all. It stands by itself, so that the first profile's way stays short.
 #[inline(never)]
-fn count_all(latches: &mut Latches, frames: Counter, octets: Counter, by: u32, undo: &mut LatchUndo)
+fn count_all(latches: &mut Latches, frames: Counter, octets: Counter, by: u32) -> LatchUndo
     requires frames { octets_for_count frames 1 ≡ 1 }
     requires octets { octets_for_count octets by ≤ 4 }
-    requires room { octets_of undo.old ≡ 0 }
     ensures state { latches.new ≡ after_total Profile.Adapter frames octets by latches.old }
-    ensures octets { octets_of undo.new ≤ 5 }
-    ensures reverses { (base : Registers) → Reverses base latches.old undo.old → Reverses base latches.new undo.new }
+    ensures octets { octets_of result ≤ 5 }
+    ensures reverses { Reverses latches.old latches.new result }
 {
-    latches.count_into(frames, 1, undo);
-    latches.count_into(octets, by, undo);
+    let mut undo = latches.count(frames, 1);
+    latches.count_into(octets, by, &mut undo);
+    undo
 }
 
 /// Counts a frame that is dropped for its size, by its counter and among all.
@@ -150,7 +139,7 @@ fn count_sizes(latches: &mut Latches, octets: u32, undo: &mut LatchUndo)
     ensures reverses { (base : Registers) → Reverses base latches.old undo.old → Reverses base latches.new undo.new }
 {
     latches.count_into(Counter::Gprc, 1, undo);
-    latches.count_into(stored_counter(class_of(octets)), 1, undo);
+    count_stored_class(latches, class_of(octets), undo);
     latches.count_into(Counter::Gorc, octets, undo);
 }
 
@@ -178,33 +167,39 @@ fn class_of(octets: u32) -> SizeClass
     }
 }
 
-/// The counter of the frames of a class that are stored.
-fn stored_counter(class: SizeClass) -> Counter
-    ensures counter { result ≡ stored_counter class }
-    ensures octets { octets_for_count result 1 ≡ 1 }
+/// Counts one more frame of a class that is stored. Each class has a call of its own, so that the counter's register is
+/// known where the code is compiled.
+fn count_stored_class(latches: &mut Latches, class: SizeClass, undo: &mut LatchUndo)
+    requires { octets_of undo.old ≤ 6 }
+    ensures state { latches.new ≡ after_count latches.old (stored_counter class) 1 }
+    ensures octets { octets_of undo.new ≤ octets_of undo.old + 1 }
+    ensures reverses { (base : Registers) → Reverses base latches.old undo.old → Reverses base latches.new undo.new }
 {
     match class {
-        SizeClass::Upto64 => Counter::Prc64,
-        SizeClass::Upto127 => Counter::Prc127,
-        SizeClass::Upto255 => Counter::Prc255,
-        SizeClass::Upto511 => Counter::Prc511,
-        SizeClass::Upto1023 => Counter::Prc1023,
-        SizeClass::Above1023 => Counter::Prc1522,
+        SizeClass::Upto64 => latches.count_into(Counter::Prc64, 1, undo),
+        SizeClass::Upto127 => latches.count_into(Counter::Prc127, 1, undo),
+        SizeClass::Upto255 => latches.count_into(Counter::Prc255, 1, undo),
+        SizeClass::Upto511 => latches.count_into(Counter::Prc511, 1, undo),
+        SizeClass::Upto1023 => latches.count_into(Counter::Prc1023, 1, undo),
+        SizeClass::Above1023 => latches.count_into(Counter::Prc1522, 1, undo),
     }
 }
 
-/// The counter of the frames of a class that are sent.
-fn sent_counter(class: SizeClass) -> Counter
-    ensures counter { result ≡ sent_counter class }
-    ensures octets { octets_for_count result 1 ≡ 1 }
+/// Counts one more frame of a class that is sent. Each class has a call of its own, so that the counter's register is
+/// known where the code is compiled.
+fn count_sent_class(latches: &mut Latches, class: SizeClass, undo: &mut LatchUndo)
+    requires { octets_of undo.old ≤ 6 }
+    ensures state { latches.new ≡ after_count latches.old (sent_counter class) 1 }
+    ensures octets { octets_of undo.new ≤ octets_of undo.old + 1 }
+    ensures reverses { (base : Registers) → Reverses base latches.old undo.old → Reverses base latches.new undo.new }
 {
     match class {
-        SizeClass::Upto64 => Counter::Ptc64,
-        SizeClass::Upto127 => Counter::Ptc127,
-        SizeClass::Upto255 => Counter::Ptc255,
-        SizeClass::Upto511 => Counter::Ptc511,
-        SizeClass::Upto1023 => Counter::Ptc1023,
-        SizeClass::Above1023 => Counter::Ptc1522,
+        SizeClass::Upto64 => latches.count_into(Counter::Ptc64, 1, undo),
+        SizeClass::Upto127 => latches.count_into(Counter::Ptc127, 1, undo),
+        SizeClass::Upto255 => latches.count_into(Counter::Ptc255, 1, undo),
+        SizeClass::Upto511 => latches.count_into(Counter::Ptc511, 1, undo),
+        SizeClass::Upto1023 => latches.count_into(Counter::Ptc1023, 1, undo),
+        SizeClass::Above1023 => latches.count_into(Counter::Ptc1522, 1, undo),
     }
 }
 
@@ -246,15 +241,7 @@ pub(crate) fn count_sent(
     ensures state { latches.new ≡ after_raise (after_sent_count profile octets kind latches.old) causes }
     ensures reverses { Reverses latches.old latches.new result }
 {
-    let mut undo = LatchUndo::none();
-    count_total(
-        latches,
-        profile,
-        Counter::Tpt,
-        Counter::Tot,
-        octets,
-        &mut undo,
-    );
+    let mut undo = count_total(latches, profile, Counter::Tpt, Counter::Tot, octets);
     count_sent_sizes(latches, octets, &mut undo);
     count_sent_kind(latches, kind, &mut undo);
     latches.raise_into(causes, &mut undo);
@@ -273,7 +260,7 @@ fn count_sent_sizes(latches: &mut Latches, octets: u32, undo: &mut LatchUndo)
         return;
     }
     latches.count_into(Counter::Gptc, 1, undo);
-    latches.count_into(sent_counter(class_of(octets)), 1, undo);
+    count_sent_class(latches, class_of(octets), undo);
     latches.count_into(Counter::Gotc, octets, undo);
 }
 

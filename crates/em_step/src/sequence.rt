@@ -39,11 +39,36 @@ pub(crate) fn store_kept(
     ensures kept { OnErr result (old.new ≡ old.old) }
 {
     if kept {
-        let octets = with_sequence(alloc, frame)?;
-        fifo.store(octets.as_slice(), tagged, old)
+        store_with_sequence(alloc, fifo, frame, tagged, old)
     } else {
         fifo.store(frame, tagged, old)
     }
+}
+
+/// Stores a frame with its check sequence. It stands by itself, so that the first profile's way stays short.
+#[inline(never)]
+fn store_with_sequence(
+    alloc: Global,
+    fifo: &mut Fifo,
+    frame: &[u8],
+    tagged: bool,
+    old: &mut OldOctets,
+) -> Result<OldFrame, RxRefusal>
+    requires least { 60 ≤ length frame.now }
+    requires most { length frame.now ≤ 16_380 }
+    requires room { HasRoom (shows fifo.old) (length (stored_frame (with_sequence true frame.now) tagged).octets) }
+    ensures ok { OnOk result (shows fifo.new
+        ≡ after_arrival (shows fifo.old) (stored_frame (with_sequence true frame.now) tagged)) }
+    ensures held { IfOk result (λ r. r.len ≡ length (stored_frame (with_sequence true frame.now) tagged).octets) }
+    ensures keeps { IfOk result (λ r. Keeps r.len old.old old.new) }
+    ensures reverses { IfOk result (λ r. (m : memory.Cells) →
+        Reverses fifo.old fifo.new m m (Frame (frame_patch r old.new))) }
+    ensures refused { IfErr result (λ refusal. refusal ≡ RxRefusal.Memory) }
+    ensures same { OnErr result (fifo.new ≡ fifo.old) }
+    ensures kept { OnErr result (old.new ≡ old.old) }
+{
+    let octets = with_sequence(alloc, frame)?;
+    fifo.store(octets.as_slice(), tagged, old)
 }
 
 /// A frame, and its check sequence behind it.

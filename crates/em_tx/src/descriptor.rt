@@ -1,6 +1,7 @@
 //! The transmit descriptor (manual, chapter on transmit description, legacy format).
 ghost use Rattle.std.specs.Prelude.{◌≡◌, slice_index};
 ghost use Rattle.em_tx.specs.Control.{as_read, without_octets};
+ghost use Rattle.em_regs.specs.declared.profile.Profile.TheVariants.{Adapter};
 ghost use Rattle.em_tx.specs.Descriptor.{address, dext, eop, length_of, rs, special, vle};
 
 use byteorder::{ByteOrder, LittleEndian};
@@ -69,7 +70,19 @@ impl TxDescriptor {
     pub fn as_read(self, profile: Profile) -> TxDescriptor
         ensures { result ≡ as_read profile self }
     {
-        if matches!(profile, Profile::Adapter) && self.address() == 0 {
+        match profile {
+            Profile::Table => self,
+            Profile::Adapter => self.as_the_second_reads(),
+        }
+    }
+
+    /// The same in the second profile. It stands by itself, so that the first one's way stays short.
+    #[inline(never)]
+    #[tactic(auto, unfolding(crate::specs::Control::as_read))]
+    fn as_the_second_reads(self) -> TxDescriptor
+        ensures { result ≡ as_read Adapter self }
+    {
+        if self.address() == 0 {
             self.without_octets()
         } else {
             self

@@ -13,7 +13,7 @@ returns-clause-reverses c =
       fits = record { latches = tt; effect = (octets.fits, frames.sound) };
       restores = record {
         registers = ap (λ file. file.value) c.swap.ensures.y_after ∙ ap (λ (x : Cells). x.registers) c.self.view_is;
-        latches = c.replace-before.ensures.value ∙ ap (λ (x : Cells). x.latches) c.self.view_is;
+        latches = c.copy-before.ensures ∙ ap (λ (x : Cells). x.latches) c.self.view_is;
         fifo = frames.restores ∙ ap (λ (x : Cells). x.fifo) c.self.view_is;
         memory = pages_from (ap (λ (x : Cells). x.memory) c.self.view_is) octets.restores.memory;
         gathered = room_from (ap (λ (x : Cells). x.gathered) c.self.view_is) octets.restores.gathered;
