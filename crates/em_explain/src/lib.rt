@@ -17,4 +17,4 @@ pub use look_text::write_look;
 pub use looked::looked_at;
 pub use undone::is_undone;
 pub use watched::watch_of;
-pub use why::{Why, why_of};
+pub use why::{Why, why_idle, why_of};

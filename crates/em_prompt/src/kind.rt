@@ -19,6 +19,8 @@ pub enum Choice {
     Changes,
     /// `on` or `off`.
     Switch,
+    /// `rx`, `tx`, `line`, `dropped`, or the number of a line.
+    Matter,
 }
 
 /// What a word of a line is.
@@ -87,6 +89,7 @@ impl Kind {
             Kind::Choice(Choice::Until) => "until",
             Kind::Choice(Choice::Changes) => "changes",
             Kind::Choice(Choice::Switch) => "on or off",
+            Kind::Choice(Choice::Matter) => "rx, tx, line, dropped or LINE",
         }
     }
 

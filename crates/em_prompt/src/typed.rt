@@ -58,6 +58,21 @@ pub enum Target {
     Octet(u64),
 }
 
+/// What `why` asks about.
+#[derive(Clone, Copy, PartialEq, Eq, Debug)]
+pub enum Matter {
+    /// The newest event that did nothing.
+    Newest,
+    /// The newest frame that was dropped.
+    Dropped,
+    /// The event of the line of this number.
+    Line(u32),
+    /// A step of an engine, as things are now.
+    Step(Side),
+    /// The interrupt line, as it is now.
+    Interrupt,
+}
+
 /// What is shown, and changes nothing.
 #[derive(Clone, Copy, PartialEq, Eq, Debug)]
 pub enum Shown {
@@ -78,8 +93,8 @@ pub enum Shown {
     Memory(u64, u32),
     /// The places that have names.
     Marks,
-    /// Why the newest event did nothing.
-    Why,
+    /// Why an event did nothing, or why things are as they are.
+    Why(Matter),
     /// What drivers get wrong, rule by rule.
     Warnings,
     /// The help, whole or for one command.

@@ -1,12 +1,12 @@
 use Rattle.std.proofs.Common.{◌≡◌, ◌≤◌}
-use Rattle.em_debugger.specs.Why.{newest_undone}
-use Rattle.em_debugger.proofs.debugger.Debugger.newest_undone.Given as goal
+use Rattle.em_debugger.specs.Why.{newest_such}
+use Rattle.em_debugger.proofs.debugger.Debugger.newest_such.Given as goal
 
 -- none of those behind the line so far
 abbrev pub invariant-loop-line : goal.invariant-loop-line
 invariant-loop-line l =
     record {
-      same : newest_undone l.self l.line ≡ newest_undone l.self l.last;
+      same : newest_such l.such l.self l.line ≡ newest_such l.such l.self l.last;
       within : l.line ≤ l.last;
     }
 
