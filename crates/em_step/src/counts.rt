@@ -109,6 +109,7 @@ pub(crate) fn count_miss(
 }
 
 /// Counts a frame that is stored, of so many octets on the wire.
+#[inline(always)]
 pub(crate) fn count_frame(
     latches: &mut Latches,
     profile: Profile,
@@ -229,6 +230,7 @@ fn count_buffer(latches: &mut Latches, lacks_buffer: bool, undo: &mut LatchUndo)
 }
 
 /// Counts a frame that was sent, of so many octets on the wire, and raises causes.
+#[inline(always)]
 pub(crate) fn count_sent(
     latches: &mut Latches,
     profile: Profile,

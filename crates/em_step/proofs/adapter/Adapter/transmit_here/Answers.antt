@@ -3,7 +3,7 @@ use Rattle.em_tx.specs.TxStep.{answer_of}
 use Rattle.em_tx.specs.declared.answer.TxStep.{TxStep}
 use Rattle.em_tx.specs.declared.answer.TxStep.TheVariants.{Handled}
 use Rattle.em_step.proofs.EngineLaws.{causes_raised, raises_few}
-use Rattle.em_step.proofs.adapter.Adapter.transmit_step.Goals as goal
+use Rattle.em_step.proofs.adapter.Adapter.transmit_here.Goals as goal
 
 pub count_sent-latches-requires-clause-causes : goal.count_sent-latches-requires-clause-causes
 count_sent-latches-requires-clause-causes c =
