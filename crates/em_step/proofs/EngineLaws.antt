@@ -40,10 +40,10 @@ pub rx_wrote : (s t : State) {q : RxControl} {a : RxAnswer} {index next causes :
     → a ≡ rx_answer.Wrote index next causes
     → t.registers ≡ put s.registers Rdh next → t.latches ≡ after_raise s.latches causes
     → t.base ≡ s.base → t.gathered ≡ s.gathered → t.wire ≡ s.wire → t.eeprom ≡ s.eeprom → t.link ≡ s.link
-    → t.profile ≡ s.profile → t.pins ≡ s.pins → t.phy ≡ s.phy
+    → t.profile ≡ s.profile → t.pins ≡ s.pins → t.phy ≡ s.phy → t.offload ≡ s.offload
     → rx_step s ≡ Ok (Wrote index, t)
 rx_wrote s t {q = q} {a = a} {index = index} {next = next} {causes = causes}
-    setup is answer registers latches base gathered wire eeprom link profile pins phy =
+    setup is answer registers latches base gathered wire eeprom link profile pins phy offload =
     let left : RxAnswer → Outcome = λ x. record { answer = x; memory = t.memory; fifo = t.fifo } in
     let by_setup : receive (rx_control s) s.base s.memory s.fifo ≡ Ok (left (rx_answer.Wrote index next causes))
     = ap (λ p. receive p s.base s.memory s.fifo) (sym setup) ∙ is ∙ ap (λ x. Ok (left x)) answer in
@@ -60,6 +60,7 @@ rx_wrote s t {q = q} {a = a} {index = index} {next = next} {causes = causes}
       profile = sym profile i;
       pins = sym pins i;
       phy = sym phy i;
+      offload = sym offload i;
     } in
     ap (rx_stepped s) by_setup ∙ ap (λ x. Ok (Wrote index, x)) same
 

@@ -27,6 +27,7 @@ cells_same c d same = record {
   profile = ap (λ (x : Cells). x.profile) same;
   pins = ap (λ (x : Cells). x.pins) same;
   phy = ap (λ (x : Cells). x.phy) same;
+  offload = ap (λ (x : Cells). x.offload) same;
 }
 
 -- what is refused for this, and changes nothing

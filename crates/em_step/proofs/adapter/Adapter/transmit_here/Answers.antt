@@ -33,6 +33,7 @@ returns-after-frame-clause-ok c = record {
         profile = search rules;
         pins = search rules;
         phy = search rules;
+        offload = search rules;
       };
     };
   };
