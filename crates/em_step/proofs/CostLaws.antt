@@ -4,7 +4,7 @@ use Rattle.std.proofs.Common.{true}
 use Rattle.std.proofs.Common.{false}
 use Rattle.std.proofs.lemmas.Bool.{ltb-false}
 use Rattle.std.proofs.lemmas.Bool.Decides.{nat_tests}
-use Rattle.std.specs.Prelude.{if◌then◌else◌, nat_lt, ◌||◌, slice_index, ◌/◌, ◌%◌, ◌^◌}
+use Rattle.std.specs.Prelude.{if◌then◌else◌, min, nat_lt, ◌||◌, slice_index, ◌/◌, ◌%◌, ◌^◌}
 use Rattle.em_regs.specs.declared.reg.Reg.TheVariants.{Rctl}
 use Rattle.em_regs.specs.Setup.{has, value_of}
 use Rattle.em_regs.specs.Table.{reg_at}
@@ -12,10 +12,12 @@ use Rattle.em_rx.proofs.HeldLaws.{most_written}
 use Rattle.em_rx.specs.Receive.{octets_written}
 use Rattle.em_tx.specs.Cells.{Shown}
 use Rattle.em_tx.specs.Engine as tx
+use Rattle.em_tx.specs.Extended.{data_cost, extended_cost, is_context, raw, sends_data}
 use Rattle.em_tx.specs.declared.answer.TxAnswer.{TxAnswer}
 use Rattle.em_tx.specs.declared.refusal.TxRefusal.{TxRefusal}
 use Rattle.em_tx.proofs.CostLaws as tx_laws
-use Rattle.em_step.specs.Engines.{rx_control, sending, transmitted, tx_control, tx_stepped}
+use Rattle.em_step.specs.Engines.{extended_step, has_extended, rx_control, sending, sending_both, transmitted, tx_control}
+use Rattle.em_step.specs.Engines.{tx_stepped}
 use Rattle.em_filter.specs.Vlan.{tagged}
 use Rattle.em_step.specs.State.{State}
 use Rattle.em_step.specs.Arrival.{arrival, keeps_sequence, octets_stored}

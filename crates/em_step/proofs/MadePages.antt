@@ -4,6 +4,7 @@ use Rattle.em_mem.specs.Memory.{Patch}
 use Rattle.em_mem.proofs.MadePages as memory
 use Rattle.em_regs.specs.declared.reg.Reg.TheVariants.{Rdh, Tdh}
 use Rattle.em_regs.specs.RegFile as registers
+use Rattle.em_regs.specs.Storage.{Registers}
 use Rattle.em_latch.specs.Latches as latches
 use Rattle.em_pins.specs.Pins as pins
 use Rattle.em_phy.specs.Phy as phy

@@ -34,7 +34,7 @@ use em_phy::{Phy, asks_for_interrupt};
 use em_pins::Pins;
 use em_regs::{Causes, Ctrl, Eerd, Kind, Profile, Reg, RegFile, RegUndo, Status};
 use em_rx::{Fifo, Places, StoredFrame};
-use em_tx::{Change, Gather, TxUndo, Wire, take_back, take_extended_back};
+use em_tx::{Change, Gather, TxUndo, Wire, take_back};
 use std::alloc::{AllocError, Global};
 use std::marker::Model;
 
@@ -585,8 +585,10 @@ impl Adapter {
         ensures same { self.new ≡ self.old }
     {
         let cost = gone.cost();
-        if let Effect::Reset(kept) = gone.effect {
-            self.let_reset_go(kept);
+        match gone.effect {
+            Effect::Reset(kept) => self.let_reset_go(kept),
+            Effect::Extended(kept) => let_extended_go(kept),
+            _ => {}
         }
         cost
     }
@@ -627,13 +629,7 @@ impl Adapter {
         } = Box::into_inner(old);
         self.registers.restore(Reg::Tdh, head);
         self.latches = latches;
-        take_extended_back(
-            &mut self.gather,
-            &mut self.offload,
-            &mut self.wire,
-            &mut self.memory,
-            change,
-        );
+        self.unsend(change);
     }
 
     /// Takes a reset back. The registers change places with those that it put aside, which are let go; the latches are
@@ -751,6 +747,11 @@ impl Adapter {
         Ok((Answer::Done, Record { latches, effect }))
     }
 }
+
+/// Lets what a step over a descriptor of the extended format changed go. It stands by itself, so that what drops records
+/// stays short.
+#[inline(never)]
+fn let_extended_go(_kept: Box<ExtendedUndo>) {}
 
 /// What a command in MDIC raises.
 fn command_cause(value: u32) -> u32

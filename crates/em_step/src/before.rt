@@ -10,7 +10,7 @@ ghost use Rattle.em_latch.specs.Latches.{IsLatched, is_latched};
 ghost use Rattle.em_step.specs.Access.{gives};
 ghost use Rattle.em_step.specs.Before.{LeavesFrom, LeavesUpTo, PutsBack, PutsBackGathered, PutsBackWindow, TakesOffWire};
 ghost use Rattle.em_step.specs.Before.{WroteOnly, frames_before, frames_sent, gathered_before, written};
-ghost use Rattle.em_step.specs.Before.{latched_before, link_before, next_octet, octets_before, register_before};
+ghost use Rattle.em_step.specs.Before.{latch_before, latched_before, link_before, next_octet, octets_before, register_before};
 ghost use Rattle.em_step.specs.Before.{mdic_before, phy_word_before, pins_before, status_before, stored_before};
 ghost use Rattle.em_step.specs.Undo.{IsPlaced, held, past_of, word};
 
@@ -86,7 +86,8 @@ impl<'a> Past<'a> {
         match &self.record.effect {
             Effect::Nothing | Effect::Octets { .. } | Effect::Arrival(..) => self.latched_end(),
             Effect::RxStep { .. } => LATCHED_END,
-            Effect::TxStep(..) | Effect::Extended(_) => LATCHED_END,
+            Effect::TxStep(..) => LATCHED_END,
+            Effect::Extended(_) => LATCHED_END,
             Effect::Register(old) if is_of(old, known) => self.latched_end(),
             Effect::Register(_)
             | Effect::Link(_)
@@ -214,12 +215,19 @@ impl<'a> Past<'a> {
         requires { IsLatched reg }
         ensures { result ≡ latched_before self.now.latches self.now.effect reg now }
     {
-        if let Effect::Reset(old) = &self.record.effect {
-            return old.latches.look(reg);
+        match &self.record.effect {
+            Effect::Reset(old) => old.latches.look(reg),
+            Effect::Extended(old) => old.latches.look(reg),
+            _ => self.latch_told(reg, now),
         }
-        if let Effect::Extended(old) = &self.record.effect {
-            return old.latches.look(reg);
-        }
+    }
+
+    /// The same by the words of the latches that grew.
+    #[inline(always)]
+    fn latch_told(&self, reg: Reg, now: u32) -> u32
+        requires { IsLatched reg }
+        ensures { result ≡ latch_before self.now.latches reg now }
+    {
         match reg {
             Reg::Ics | Reg::Imc => now,
             _ => self.record.latches.before(reg, now),

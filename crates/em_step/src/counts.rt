@@ -309,8 +309,10 @@ pub(crate) fn count_all_sent(
     ensures octets { result ≡ min (engines.octets_of (drop from wire.now)) 0xFFFF_FFFF }
 {
     let mut octets = 0u32;
-    let mut index = from;
-    while let Some(frame) = wire.frame(index) {
+    for index in from..wire.len() {
+        let Some(frame) = wire.frame(index) else {
+            unreachable!();
+        };
         let len = frame.len() as u32;
         octets = octets.saturating_add(len);
         let _ = count_sent_frame(
@@ -319,7 +321,6 @@ pub(crate) fn count_all_sent(
             len + CHECK_OCTETS as u32,
             kind_sent(frame),
         );
-        index += 1;
     }
     octets
 }

@@ -1,7 +1,7 @@
 //! What takes an event back.
 ghost use Rattle.std.specs.Prelude.{◌≡◌, ◌≤◌, []};
 ghost use Rattle.em_step.specs.Cost.{cost_by, cost_of, least_cost, most_cost};
-ghost use Rattle.em_step.specs.Undo.{held};
+ghost use Rattle.em_step.specs.Undo.{held, old_extended};
 
 use crate::packed::len_of;
 use em_latch::{LatchUndo, Latches};
@@ -93,6 +93,35 @@ pub struct BeforeReset {
     pub places: Places,
     pub gathered: TxUndo,
     pub offload: Offload,
+}
+
+impl ExtendedUndo {
+    /// A record of no change, in whose place one is put.
+    pub(crate) fn none() -> ExtendedUndo {
+        ExtendedUndo {
+            head: 0,
+            latches: Latches::new(),
+            change: BeforeExtended::none(),
+        }
+    }
+
+    /// Puts what a step changed in a place that was made for it.
+    pub(crate) fn put_in(
+        place: Box<ExtendedUndo>,
+        head: u32,
+        latches: Latches,
+        change: BeforeExtended,
+    ) -> Box<ExtendedUndo>
+        ensures { old_extended result.value ≡ record { head = head; latches = latches; change = change } }
+    {
+        let mut undo = place;
+        *undo = ExtendedUndo {
+            head,
+            latches,
+            change,
+        };
+        undo
+    }
 }
 
 impl Record {
