@@ -1,4 +1,4 @@
-use Rattle.std.proofs.Common.{◌≡◌, ◌∙◌, ◌+◌, ◌≤◌, ap, arith, length}
+use Rattle.std.proofs.Common.{◌∙◌, ◌+◌, ◌≤◌, ap, arith, length}
 use Rattle.em_step.specs.Counts.{after_sent_count}
 use Rattle.em_step.specs.Engines.{octets_of}
 use Rattle.em_step.proofs.CountLaws.{counted_more, none_left, octets_more, short_frame}
