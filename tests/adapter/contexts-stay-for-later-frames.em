@@ -49,12 +49,12 @@ poke 1020 0E182100000000000000002200000000 = ok
 tx = fetched 2
 poke 1030 14200000000000001A00102100000000 = ok
 tx = sent 3 46
-# what data gathered a descriptor of the other format sends as it is (profile)
+# a descriptor of the other format sends what data gathered, and puts no sum in (profile)
 poke 1040 00200000000000001400102000010000 = ok
 tx = fetched 4
 poke 1050 14200000000000001A00000100000000 = ok
 tx = sent 5 46
-# a context taken back is not loaded: the one before it is there again. Octets 14 and 15, 4500, at 24, and taken back
+# a context of octets 14 and 15 alone: 4500 has the complement BAFF. Taken back, the one before it is there again
 poke 1060 0E180F00000000000000002200000000 = ok
 tx = fetched 6
 poke 1070 00200000000000002E00102100010000 = ok
@@ -76,7 +76,7 @@ poke 1080 14200000000000001A00102100000000 = ok
 tx = sent 8 46
 wire = wire 13
 #= 02000000000252540012345608004500002012344000401110890A00020F0A000202003514E9000C000061626364
-# a reset leaves no context: each field is 0, so that the sum is over all and lies at 0. Its step back brings them again
+# a reset leaves no context: each field is 0, so that the sum is over all octets, at 0 (profile). Taken back, it is there again
 w CTRL 04000000 = ok
 w TDBAL 1000 = ok
 w TDLEN 100 = ok

@@ -19,7 +19,7 @@ poke 1010 00200000000000003C00182100000000 = ok
 tx = refused TooLong
 poke 1010 0020000000000000A13F102500000000 = ok
 tx = refused TooLong
-# a frame that is sent whole has at most 16,380, whatever is asked of the descriptor with EOP
+# a frame that is sent whole has at most 16,380, which is asked of each of its descriptors
 poke 1010 0020000000000000A03F102000000000 = ok
 tx = fetched 1
 poke 1020 00200000000000005D00102100000000 = ok
@@ -45,7 +45,7 @@ poke 1090 00200000000000006100102500000000 = ok
 tx = refused TooLong
 poke 1090 00200000000000006100102400000000 = ok
 tx = refused TooLong
-# data without TSE are too many at once, and so are octets of the other format
+# for a frame that is sent whole these are too many, and so they are for a descriptor of the other format
 poke 1090 00200000000000000100102100000000 = ok
 tx = refused TooLong
 poke 1090 00200000000000000100000100000000 = ok

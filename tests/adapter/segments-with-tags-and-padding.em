@@ -4,8 +4,7 @@ w TDBAL 1000 = ok
 w TDLEN 100 = ok
 w TDT F = ok
 w TCTL 2 = ok
-# each segment gets the tag, of which HDRLEN and MSS know nothing, and padding behind its sums: 58 and 54 octets become
-# 62 and 60, and 54 + 4 without padding 58
+# each segment gets the tag and the padding, behind its sums: 58 and 55 octets become 62 and 59, and of 59 padding makes 60
 w CTRL 40000000 = ok
 w TCTL A = ok
 poke 2000 02000000000252540012345608004500000000074000400600000A00020F0A00020200501000000010000000200050192000181700004142434445 = ok
