@@ -60,6 +60,13 @@ impl Context {
         Context { octets }
     }
 
+    /// Its octets.
+    pub fn octets(&self) -> &[u8; OCTETS]
+        ensures { result.now ≡ self.now }
+    {
+        &self.octets
+    }
+
     /// IPCSS, where the IP checksum begins: in octets from the frame's beginning, as all places here.
     pub fn ipcss(&self) -> u8
         ensures { result ≡ slice_index self.now 0 }

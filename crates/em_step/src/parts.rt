@@ -132,4 +132,11 @@ impl Adapter {
     {
         &self.phy
     }
+
+    /// The contexts that were loaded, and which checksums the frame gets that is gathered.
+    pub fn offload(&self) -> &Offload
+        ensures { result.now ≡ self.now.offload }
+    {
+        &self.offload
+    }
 }
