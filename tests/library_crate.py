@@ -12,6 +12,8 @@ NAME = "em_tests"
 CALLING = [LIBRARY / f"{name}.rtt" for name in "digest driven plan same setup".split()]
 # What these tests need of a crate that none of its calls gives, by the crate's name and file.
 INSIDE = sorted(LIBRARY.glob("inside/*/*.rtt"))
+# The crates of which these tests print values. Nothing else does, and so their types derive Debug only in the copy.
+PRINTED = ["em_prompt"]
 # What bench/watch.py measures, whose tests are in `speed`.
 MEASURED = [TOP / "bench" / "speed" / f"{name}.rtt" for name in ("kind", "performs", "words")]
 # The lines that the test `shown` plays, and in `stdout` what they must give.
@@ -57,6 +59,12 @@ def opened(crates: Path) -> list[tuple[Path, str]]:
         made.append((file, f"{file.read_text()}\n{inner.read_text()}"))
         file.write_text(made[-1][1])
     return made
+
+
+def printed(crates: Path) -> None:
+    """Lets the types of those crates be printed, in copies of the crates."""
+    for file in (file for name in PRINTED for file in (crates / name / "src").glob("*.rt")):
+        file.write_text(file.read_text().replace("#[derive(Clone, Copy)]", "#[derive(Clone, Copy, Debug)]"))
 
 
 def copied(crate: Path) -> Path:

@@ -5,12 +5,13 @@ the states before it and after it. A place is behind so many lines, and so many 
 """
 import copy
 import re
+from collections.abc import Callable
 from functools import cache
 from typing import NamedTuple
 
 from second_language import is_read, parts_of
 from second_notes import spoken
-from second_reading import ICR, IMS, IN_ORDER, IN_WORDS, Session, State
+from second_reading import ICR, IMS, IN_ORDER, IN_WORDS, Refused, Session, State, receive, transmit
 
 MOST_BACK = 65_536
 # a comment that is a time
@@ -286,9 +287,17 @@ class Debugger:
         return [f"    event {one.number}{f' ({one.access} of {one.of})' if one.of > 1 else ''}: {spoken(one.was)}"
                 for one in standing if one.line == standing[-1].line]
 
-    def newest_undone(self) -> int:
-        """The newest line up to the place whose answer says that its event did nothing; 0 where none does."""
-        return next((line for line in range(self.line_here(), 0, -1) if is_undone(self.behind[line].answer)), 0)
+    def would_be(self, side: str) -> str:
+        """How a step of an engine at the place would do nothing, as one does that is made on a copy; or that it would not."""
+        try:
+            answer = {"rx": receive, "tx": transmit}[side](copy.copy(self.state()))[0]
+        except Refused:
+            return "refused: "
+        return "idle: " if answer == "idle" else "neither idle nor refused"
+
+    def newest_such(self, is_such: Callable[[list[str]], bool]) -> int:
+        """The newest line up to the place whose answer is such a one; 0 where none is."""
+        return next((line for line in range(self.line_here(), 0, -1) if is_such(self.behind[line].answer)), 0)
 
 
 def came(access: Event) -> str:
@@ -311,6 +320,10 @@ def touches(was: dict, at: int) -> bool:
 
 def is_undone(answer: list[str]) -> bool:
     return bool(answer) and (answer[0] == "idle" or answer[0].startswith(("dropped ", "refused ")))
+
+
+def is_dropped(answer: list[str]) -> bool:
+    return bool(answer) and answer[0].startswith("dropped ")
 
 
 def short(text: str) -> str:

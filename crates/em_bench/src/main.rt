@@ -44,7 +44,7 @@ fn words(rt: &(impl Env + AllocGlobal)) -> io::Result<Vec<String>> {
 /// Ends a run whose words can't be had.
 fn without_words(rt: &impl Eprint, error: &io::Error) -> Ending {
     let ending = Ending::without_words(error);
-    if ending == Ending::Parser {
+    if matches!(ending, Ending::Parser) {
         let _ = eprintln!(rt; "error: the command line is not UTF-8");
     }
     ending

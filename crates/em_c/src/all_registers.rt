@@ -16,7 +16,7 @@ const WORD: u32 = 4;
 
 /// A register, and what a read of it would give.
 #[repr(C)]
-#[derive(Clone, Copy, PartialEq, Eq, Debug)]
+#[derive(Clone, Copy)]
 pub struct EmRegister {
     pub offset: u32,
     pub value: u32,

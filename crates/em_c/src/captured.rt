@@ -20,7 +20,7 @@ const OWN: [u8; 6] = [0x52, 0x54, 0x00, 0x12, 0x34, 0x56];
 
 /// A frame of a capture, beside its octets.
 #[repr(C)]
-#[derive(Clone, Copy, PartialEq, Eq, Debug)]
+#[derive(Clone, Copy)]
 pub struct EmPcapFrame {
     /// When it was captured, in nanoseconds since 1970 began; 0 where the capture does not say it.
     pub nanoseconds: u64,

@@ -12,7 +12,7 @@ use em_journal::Machine;
 
 /// What waits in the FIFO, and what is gathered.
 #[repr(C)]
-#[derive(Clone, Copy, PartialEq, Eq, Debug)]
+#[derive(Clone, Copy)]
 pub struct EmFifo {
     /// How many frames wait.
     pub frames: u64,

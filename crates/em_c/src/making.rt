@@ -23,7 +23,7 @@ use std::alloc::Global;
 const EEPROM_WORDS: usize = 64;
 
 /// Where guest memory is to lie, and of which profile the machine is: the first, where none is named.
-#[derive(Clone, Copy, Debug)]
+#[derive(Clone, Copy)]
 pub enum Place {
     /// So many octets from address 0 on: 16 MiB at most.
     First(u64),

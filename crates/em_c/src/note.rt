@@ -7,7 +7,7 @@ use em_trail::{Kind, Note};
 
 /// An event that was performed.
 #[repr(C)]
-#[derive(Clone, Copy, PartialEq, Eq, Debug)]
+#[derive(Clone, Copy)]
 pub struct EmNote {
     /// What the caller called it by.
     pub tag: u64,

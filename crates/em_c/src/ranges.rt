@@ -13,7 +13,7 @@ use em_mem::{Needs, Range};
 
 /// A range of guest memory. One of 0 octets stands at 0.
 #[repr(C)]
-#[derive(Clone, Copy, PartialEq, Eq, Debug)]
+#[derive(Clone, Copy)]
 pub struct EmRange {
     /// Where its first octet lies.
     pub address: u64,

@@ -9,7 +9,7 @@ pub const DONE: u32 = 0;
 
 /// Why a call did nothing. Each reason has a number of its own. From 38 to 45 they are those of bindings/c, which
 /// lies over the calls.
-#[derive(Clone, Copy, PartialEq, Eq, Debug)]
+#[derive(Clone, Copy)]
 pub enum Refused {
     /// No register lies at the offset.
     NoRegister = 1,

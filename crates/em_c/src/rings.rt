@@ -12,7 +12,7 @@ use em_regs::{DESCRIPTOR_OCTETS, Ring};
 
 /// A ring, as the registers set it up.
 #[repr(C)]
-#[derive(Clone, Copy, PartialEq, Eq, Debug)]
+#[derive(Clone, Copy)]
 pub struct EmRingSetup {
     /// Where descriptor 0 lies.
     pub base: u64,
@@ -30,7 +30,7 @@ pub struct EmRingSetup {
 
 /// A descriptor of a ring.
 #[repr(C)]
-#[derive(Clone, Copy, PartialEq, Eq, Debug)]
+#[derive(Clone, Copy)]
 pub struct EmDescriptor {
     /// Its octets, as they lie in guest memory.
     pub octets: [u8; DESCRIPTOR_OCTETS],

@@ -5,7 +5,7 @@ ghost use Rattle.em_c.specs.Rule.{number_of};
 /// By which rule an event did nothing. The rules of a step, of a frame and of what is refused are asked in the order in
 /// which they stand here, but those from 32 on: FrameControl is asked with FrameUnicast, FrameCfi and FramePause behind
 /// FrameVlan, and TxLinkDown behind TxEmpty. The first that holds is the reason.
-#[derive(Clone, Copy, PartialEq, Eq, Debug)]
+#[derive(Clone, Copy)]
 pub enum Rule {
     /// None: the event did something.
     NoRule = 0,

@@ -19,7 +19,7 @@ const LAST_PHY_WORD: u32 = 31;
 
 /// What is watched.
 #[repr(C)]
-#[derive(Clone, Copy, PartialEq, Eq, Debug)]
+#[derive(Clone, Copy)]
 pub struct EmWatch {
     /// 1: a register; 2: octets of guest memory; 3: the interrupt line; 4: the link; 5: how many frames lie in the
     /// FIFO; 6: how many frames were sent; 7: a word of the PHY, as a read of it by MDIC gives it.
@@ -34,7 +34,7 @@ pub struct EmWatch {
 
 /// A change of what is watched.
 #[repr(C)]
-#[derive(Clone, Copy, PartialEq, Eq, Debug)]
+#[derive(Clone, Copy)]
 pub struct EmChange {
     /// How many steps back lead before the event that made it: the newest event is 1.
     pub back: usize,

@@ -21,7 +21,7 @@ const DIGIT: u32 = 0xF;
 const DIGIT_BITS: u32 = 4;
 
 /// Which of the answers that differ are shown.
-#[derive(Clone, Copy, Debug)]
+#[derive(Clone, Copy)]
 pub struct Wanted {
     /// The first of each register, and not only the first.
     pub all: bool,
@@ -30,7 +30,7 @@ pub struct Wanted {
 }
 
 /// How often answers differed that reads of a register gave; of other lines, where there is none.
-#[derive(Clone, Copy, Debug)]
+#[derive(Clone, Copy)]
 struct Count {
     reg: Option<Reg>,
     differed: u64,

@@ -273,7 +273,7 @@ fn without_machine<R: Eprint>(rt: &R, settings: Settings, refusal: SettingsRefus
 }
 
 /// What a run found besides the score: how many lines were bad, and how many answers differed for a known cause.
-#[derive(Clone, Copy, Debug)]
+#[derive(Clone, Copy)]
 struct Found {
     bad: u64,
     known: u64,
@@ -454,7 +454,7 @@ fn list<R: Print + AllocGlobal, D: Disk + Drop>(rt: &R, served: &mut Served<D>) 
 }
 
 /// Where lines come from, what each is asked for with, of which script they ask, and whether they are answered by objects.
-#[derive(Clone, Copy, Debug)]
+#[derive(Clone, Copy)]
 struct Source<'a> {
     name: &'a str,
     prompt: &'a [u8],

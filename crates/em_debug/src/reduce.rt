@@ -21,7 +21,7 @@ const WARNING: &str = "warning ";
 const DIFFERS: &str = "differs";
 
 /// What is to come.
-#[derive(Clone, Copy, Debug)]
+#[derive(Clone, Copy)]
 enum Sought<'a> {
     /// An answer differs from the one that its line expects.
     Differs,

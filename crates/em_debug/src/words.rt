@@ -6,7 +6,7 @@ use std::rt::Env;
 use std::{env, io};
 
 /// What the words ask for beside em_bench's options.
-#[derive(Clone, Copy, PartialEq, Eq, Debug)]
+#[derive(Clone, Copy)]
 pub enum Asked {
     /// A session.
     Session,
@@ -266,7 +266,7 @@ fn set(flag: &mut bool, name: &'static str) -> Result<(), WordsRefused> {
 }
 
 /// What the word before one is to it.
-#[derive(Clone, Copy, PartialEq, Eq, Debug)]
+#[derive(Clone, Copy)]
 enum Before {
     /// `-x`, which a file follows.
     Commands,

@@ -2,7 +2,7 @@
 use Rattle.std.proofs.Common.{◌≡◌, ◌∙◌, ℕ, Bool, true, false, List, Result, Ok, Err, sym, ap, subst}
 use Rattle.std.specs.Prelude.{IfErr, IfOk, OnErr, OnOk}
 use Rattle.em_text.specs.Lines.{lines_of}
-use Rattle.em_script.specs.declared.runner.BenchFault.{BenchFault}
+use Rattle.em_script.specs.declared.fault.BenchFault.{BenchFault}
 use Rattle.em_debugger.specs.declared.debugger.Debugger.{Debugger}
 use Rattle.em_debugger.specs.declared.files.Added.{Added}
 use Rattle.em_debugger.specs.Files.{AddsLines, AddsSome, BeginsAdded, BeginsText, IsUnadded, added_of, loaded_text, loads, plays, stops, unplayed}

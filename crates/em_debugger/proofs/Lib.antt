@@ -20,7 +20,8 @@
 --      (`do_again`)
 --      AccessesLaws (`newest_in`, `list_newest`): events of a sort; AccessedLaws (`newest_access`), LostLaws
 --      (`lost_in`): events that were no access, or lost no frame
---      WhyLaws (`newest_undone`): the newest line whose event did nothing
+--      WhyLaws (`newest_such`, `why_tried`, `why_interrupt`): the newest line that came out in some way; what is told of
+--      a step, of the interrupt line, and of what was looked at
 -- Warnings (`has_warnings`): WarningsLaws: what rules said of each line stays beside it
 -- Lines as they are listed (`write_around`, `write_lines_between`, `list_all`):
 --   1  HistoryLaws: the lines that did something; 2 ExcerptLaws: lines of the script; ListingLaws: lists

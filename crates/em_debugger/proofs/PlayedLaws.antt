@@ -9,7 +9,7 @@ use Rattle.std.proofs.lemmas.List.Elements.{filter-append}
 use Rattle.std.proofs.lemmas.Option.{slice_get_within}
 use Rattle.em_console.specs.Turns.{Leads}
 use Rattle.em_console.proofs.ServingLaws.{Leads-append}
-use Rattle.em_script.specs.declared.runner.BenchFault.{BenchFault}
+use Rattle.em_script.specs.declared.fault.BenchFault.{BenchFault}
 use Rattle.em_tape.specs.Moves.{noted}
 use Rattle.em_tape.specs.Tape.{Tape, event_of}
 use Rattle.em_debugger.specs.declared.debugger.Debugger.{Debugger}

@@ -2,8 +2,8 @@
 use Rattle.std.proofs.Common.{◌≡◌, ◌⊎◌, ◌∙◌, ℕ, List, [], sym, ap, subst, inl, inr}
 use Rattle.std.specs.Prelude.{Option, Some, Err}
 use Rattle.em_text.specs.declared.writer.WriteFailed.{WriteFailed}
-use Rattle.em_script.specs.declared.runner.BenchFault.{BenchFault}
-use Rattle.em_script.specs.declared.runner.BenchFault.TheVariants as fault
+use Rattle.em_script.specs.declared.fault.BenchFault.{BenchFault}
+use Rattle.em_script.specs.declared.fault.BenchFault.TheVariants as fault
 use Rattle.em_tape.specs.Moves.{Leaves, Plays}
 use Rattle.em_tape.specs.Tape.{Tape}
 use Rattle.em_tape.specs.Texts.{texts}

@@ -28,6 +28,7 @@ use Rattle.em_debugger.specs.Excerpt.{excerpt_text}
 use Rattle.em_debugger.specs.Files.{Saves}
 use Rattle.em_debugger.specs.Offers.{ArrivesAll, ArrivesNext, Loads, SavesFrames}
 use Rattle.em_debugger.specs.History.{ShowsHistory}
+use Rattle.em_debugger.specs.Matter.{TellsWhy}
 use Rattle.em_debugger.specs.Moves.{GoesBack, GoesBeforeLine, GoesToEvent, forward_by}
 use Rattle.em_debugger.specs.Next.{TellsNext}
 use Rattle.em_debugger.specs.Nowhere.{TellsNowhere}
@@ -36,7 +37,6 @@ use Rattle.em_debugger.specs.Played.{RunsAll}
 use Rattle.em_debugger.specs.Stops.{AnswersRun}
 use Rattle.em_debugger.specs.Warned.{asked_text, warned_text}
 use Rattle.em_debugger.specs.Who.{AnswersWho, TellsAgain}
-use Rattle.em_debugger.specs.Why.{TellsWhy}
 
 -- whether it is said what drivers get wrong
 abbrev pub warnings_are : Bool → List ℕ
@@ -56,7 +56,7 @@ Shows d (shown.Frame None) text = text ≡ waiting_text d.tape.session.machine.p
 Shows d (shown.Frame (Some index)) text = text ≡ sent_text d.tape.session.machine.present.wire index
 Shows d (shown.Memory addr len) text = text ≡ memory_text d.tape.session.machine.present addr len
 Shows d shown.Marks text = text ≡ marks_text d.bookmarks.all.items
-Shows d shown.Why text = TellsWhy d text
+Shows d (shown.Why matter) text = TellsWhy d matter text
 Shows d shown.Warnings text = text ≡ warned_text d
 Shows d (shown.Help (Some command)) text = text ≡ line_of command
 Shows d (shown.Help None) text = text ≡ help_text

@@ -5,8 +5,8 @@ use Rattle.std.specs.List.{flat_map, list_all, starts_with}
 use Rattle.em_text.specs.Lines.{is_newline, lines_of}
 use Rattle.em_line.specs.Grammar.{parsed_line}
 use Rattle.em_line.specs.ParsedLine.{is_read}
-use Rattle.em_script.specs.declared.runner.BenchFault.{BenchFault}
-use Rattle.em_script.specs.declared.runner.BenchFault.TheVariants as fault
+use Rattle.em_script.specs.declared.fault.BenchFault.{BenchFault}
+use Rattle.em_script.specs.declared.fault.BenchFault.TheVariants as fault
 use Rattle.em_looks.specs.Numbers.{counted_text}
 use Rattle.em_debugger.specs.declared.debugger.Debugger.{Debugger}
 use Rattle.em_debugger.specs.declared.files.Added.{Added}

@@ -19,6 +19,7 @@ pub mod History
 pub mod Led
 pub mod Listing
 pub mod Lost
+pub mod Matter
 pub mod Moves
 pub mod Next
 pub mod Nowhere
@@ -37,3 +38,4 @@ pub mod Warnings
 pub mod Marks
 pub mod Who
 pub mod Why
+pub mod WhyNow

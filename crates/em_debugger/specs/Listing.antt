@@ -2,7 +2,7 @@
 use Rattle.std.specs.Prelude.{◌≡◌, ℕ, min, List, [], ◌∷◌, ◌++◌, codes, decimal, length, drop, replicate}
 use Rattle.std.specs.List.{flat_map}
 use Rattle.em_console.specs.Turns.{Leads}
-use Rattle.em_script.specs.declared.runner.BenchFault.{BenchFault}
+use Rattle.em_script.specs.declared.fault.BenchFault.{BenchFault}
 use Rattle.em_text.specs.Lines.{lines_of}
 use Rattle.em_looks.specs.Numbers.{short_text}
 use Rattle.em_debugger.specs.declared.debugger.Debugger.{Debugger}

@@ -5,9 +5,9 @@ use Rattle.em_text.specs.declared.writer.WriteFailed.{WriteFailed}
 use Rattle.em_script.specs.declared.outcome.Outcome.{Outcome}
 use Rattle.em_tape.specs.Texts.{texts}
 use Rattle.em_script.specs.Outcome.{event_came}
-use Rattle.em_script.specs.Runner.{name_of}
-use Rattle.em_script.specs.declared.runner.BenchFault.{BenchFault}
-use Rattle.em_script.specs.declared.runner.BenchFault.TheVariants as fault
+use Rattle.em_script.specs.Fault.{name_of}
+use Rattle.em_script.specs.declared.fault.BenchFault.{BenchFault}
+use Rattle.em_script.specs.declared.fault.BenchFault.TheVariants as fault
 use Rattle.em_tape.specs.Tape.{Tape, event_of}
 use Rattle.em_tape.specs.Moves.{IsCut, Plays}
 use Rattle.em_prompt.specs.BenchLine.{BenchLine, text_of as text_of_line}

@@ -1,10 +1,11 @@
--- Why an event did nothing, and which events set what decided that.
-use Rattle.std.specs.Prelude.{◌≡◌, ℕ, zero, suc, Bool, true, false, if◌then◌else◌, List, [], ◌∷◌, ◌++◌, codes}
+-- Why an event did nothing, or why things are as they are, and which events set what decided that.
+use Rattle.std.specs.Prelude.{◌≡◌, ℕ, zero, suc, nat_lt, Bool, true, false, if◌then◌else◌, List, [], ◌∷◌, ◌++◌, codes}
 use Rattle.std.specs.Prelude.{Option, Some, None}
 use Rattle.em_explain.specs.Explain.{Explains}
 use Rattle.em_explain.specs.Looked.{LookedAt}
 use Rattle.em_explain.specs.LookText.{look_text}
 use Rattle.em_explain.specs.Watched.{IsWatchOf}
+use Rattle.em_looks.specs.Numbers.{number_text}
 use Rattle.em_reasons.specs.declared.look.Look.{Look}
 use Rattle.em_script.specs.Outcome.{event_came}
 use Rattle.em_script.specs.declared.outcome.Outcome.{Outcome}
@@ -15,6 +16,8 @@ use Rattle.em_step.specs.declared.event.Answer.TheVariants as answer
 use Rattle.em_tape.specs.Tape.{Tape}
 use Rattle.em_watch.specs.declared.watch.Watch.{Watch}
 use Rattle.em_debugger.specs.declared.debugger.Debugger.{Debugger}
+use Rattle.em_debugger.specs.declared.why.Such.{Such}
+use Rattle.em_debugger.specs.declared.why.Such.TheVariants.{Undone, Dropped}
 use Rattle.em_debugger.specs.declared.search.Found.{Found}
 use Rattle.em_debugger.specs.declared.search.Sought.{Sought}
 use Rattle.em_debugger.specs.declared.search.Sought.TheVariants as sought
@@ -40,10 +43,20 @@ is_undone (outcome.Refused (Stopped cause)) = false
 is_undone (outcome.Refused why) = true
 is_undone _ = false
 
--- of the first k lines the last that came out so; 0 where none did
-abbrev pub newest_undone : Debugger → ℕ → ℕ
-newest_undone d zero = 0
-newest_undone d (suc k) = if is_undone (came (suc k) d) then suc k else newest_undone d k
+-- its frame was dropped
+abbrev pub is_dropped : Outcome → Bool
+is_dropped (outcome.Answered (answer.Dropped reason)) = true
+is_dropped _ = false
+
+-- it came out in such a way
+abbrev pub is_such : Such → Outcome → Bool
+is_such Undone came = is_undone came
+is_such Dropped came = is_dropped came
+
+-- of the first k lines the last that did; 0 where none did
+abbrev pub newest_such : Such → Debugger → ℕ → ℕ
+newest_such such d zero = 0
+newest_such such d (suc k) = if is_such such (came (suc k) d) then suc k else newest_such such d k
 
 -- ---- texts
 
@@ -122,10 +135,32 @@ pub data TellsWhyOf (d : Debugger) (line : ℕ) (text : List ℕ) : Type 0 where
   again : (deep : Tape) → IsAgainTo d.settings d.tape line deep → TellsWhyAt d deep line text → TellsWhyOf d line text
   unreached : text ≡ heading_text d line ++ codes "  no memory to play it again\n" → TellsWhyOf d line text
 
--- by the newest such line up to the place
-abbrev pub TellsWhyNewest : Debugger → ℕ → List ℕ → Type 0
-TellsWhyNewest d zero text = text ≡ codes "no step was idle, no frame dropped, nothing refused\n"
-TellsWhyNewest d (suc k) text = TellsWhyOf d (suc k) text
+-- that no line came out so
+abbrev pub none_text : Such → List ℕ
+none_text Undone = codes "no step was idle, no frame dropped, nothing refused\n"
+none_text Dropped = codes "no frame was dropped\n"
 
-abbrev pub TellsWhy : Debugger → List ℕ → Type 0
-TellsWhy d text = TellsWhyNewest d (newest_undone d (line_here d.tape)) text
+-- by the newest such line up to the place
+abbrev pub TellsWhyAny : Such → Debugger → ℕ → List ℕ → Type 0
+TellsWhyAny such d zero text = text ≡ none_text such
+TellsWhyAny such d (suc k) text = TellsWhyOf d (suc k) text
+
+abbrev pub TellsWhyNewest : Such → Debugger → List ℕ → Type 0
+TellsWhyNewest such d text = TellsWhyAny such d (newest_such such d (line_here d.tape)) text
+
+-- that the place is before such a line
+abbrev pub not_there : ℕ → List ℕ
+not_there line = number_text (codes "line ") line (codes " does not stand before the place\n")
+
+-- of a line up to the place, if it did nothing
+abbrev pub TellsWhyDone : Bool → Debugger → ℕ → List ℕ → Type 0
+TellsWhyDone true d line text = TellsWhyOf d line text
+TellsWhyDone false d line text = text ≡ heading_text d line ++ codes "  it was not idle, dropped or refused\n"
+
+abbrev pub TellsWhyHere : Bool → Debugger → ℕ → List ℕ → Type 0
+TellsWhyHere true d line text = text ≡ not_there line
+TellsWhyHere false d line text = TellsWhyDone (is_undone (came line d)) d line text
+
+-- of the line of a number
+abbrev pub TellsWhyLine : Debugger → ℕ → List ℕ → Type 0
+TellsWhyLine d line text = TellsWhyHere (nat_lt (line_here d.tape) line) d line text

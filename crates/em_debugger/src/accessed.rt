@@ -10,7 +10,7 @@ use em_watch::{Sight, Watch, seen_back};
 use std::io::Write;
 
 /// An access of what is watched: the event, its note, and what is seen behind it.
-#[derive(Clone, Copy, PartialEq, Eq, Debug)]
+#[derive(Clone, Copy)]
 pub(crate) struct Accessed {
     pub(crate) event: u64,
     pub(crate) note: Note,

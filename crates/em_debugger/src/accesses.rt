@@ -33,7 +33,7 @@ use std::io::Write;
 const DESCRIPTOR_LEN: u64 = 16;
 
 /// Which events are looked for, by their notes.
-#[derive(Clone, Copy, PartialEq, Eq, Debug)]
+#[derive(Clone, Copy)]
 pub(crate) enum Sort {
     /// Those that wrote a register.
     Writes(Reg),
@@ -42,7 +42,7 @@ pub(crate) enum Sort {
 }
 
 /// Such an event: so many steps lead back to before it, on its tape; its number, and what it was.
-#[derive(Clone, Copy, PartialEq, Eq, Debug)]
+#[derive(Clone, Copy)]
 pub(crate) struct Noted {
     pub(crate) back: usize,
     pub(crate) event: u64,
@@ -50,7 +50,7 @@ pub(crate) struct Noted {
 }
 
 /// How a list of them ends.
-#[derive(Clone, Copy, PartialEq, Eq, Debug)]
+#[derive(Clone, Copy)]
 pub(crate) enum Ended {
     /// As many were asked for.
     Full,
@@ -61,14 +61,14 @@ pub(crate) enum Ended {
 }
 
 /// A list that was written.
-#[derive(Clone, Copy, PartialEq, Eq, Debug)]
+#[derive(Clone, Copy)]
 pub(crate) struct Listed {
     pub(crate) count: usize,
     pub(crate) ended: Ended,
 }
 
 /// What a search for the newest gave.
-#[derive(Clone, Copy, PartialEq, Eq, Debug)]
+#[derive(Clone, Copy)]
 pub(crate) enum Newest {
     Found(Noted),
     /// None stands.

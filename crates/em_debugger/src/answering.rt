@@ -147,7 +147,7 @@ impl Debugger {
             Shown::Frame(Some(index)) => show_sent(writer, machine, index),
             Shown::Memory(addr, len) => show_memory(writer, machine, addr, len),
             Shown::Marks => write_marks(writer, &self.bookmarks),
-            Shown::Why => self.why(writer),
+            Shown::Why(matter) => self.why(writer, matter),
             Shown::Warnings => self.list_warnings(writer),
             Shown::Help(Some(command)) => write_help(writer, command),
             Shown::Help(None) => write_whole_help(writer),

@@ -22,7 +22,7 @@ use em_watch::Watch;
 use std::io::Write;
 
 /// A line whose answer differs from the one that it expects.
-#[derive(Clone, Copy, PartialEq, Eq, Debug)]
+#[derive(Clone, Copy)]
 pub struct Differing {
     /// The line's number.
     pub line: usize,
@@ -34,7 +34,7 @@ pub struct Differing {
 }
 
 /// What a comparison came to.
-#[derive(Clone, Copy, PartialEq, Eq, Debug)]
+#[derive(Clone, Copy)]
 pub enum Compared {
     /// No answer differs up to the last line.
     Agrees,

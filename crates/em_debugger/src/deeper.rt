@@ -22,13 +22,13 @@ use std::io::{Write, sink};
 const MOST_BUDGET: u64 = 16_777_216;
 
 /// A request for memory was refused. Only this module makes one, and only where that was so.
-#[derive(Clone, Copy, PartialEq, Eq, Debug)]
+#[derive(Clone, Copy)]
 pub(crate) struct NoMemory {
     sealed: (),
 }
 
 /// Why an event is not seen.
-#[derive(Clone, Copy, PartialEq, Eq, Debug)]
+#[derive(Clone, Copy)]
 pub(crate) enum Unseen {
     /// A request for memory was refused.
     Memory(NoMemory),

@@ -3,7 +3,7 @@ ghost use Rattle.std.specs.Prelude.{◌≡◌};
 ghost use Rattle.em_debugger.specs.Disk.{disk_text};
 
 /// Why a file was not read or written.
-#[derive(Clone, Copy, PartialEq, Eq, Debug)]
+#[derive(Clone, Copy)]
 pub enum DiskFault {
     /// There is no such file.
     Missing,

@@ -17,7 +17,7 @@ use std::alloc::AllocError;
 use std::io::Write;
 
 /// How many answers were as their lines expect, how many were not, and how many warnings lines had.
-#[derive(Clone, Copy, PartialEq, Eq, Debug)]
+#[derive(Clone, Copy)]
 pub struct Score {
     pub agreed: u64,
     pub differed: u64,

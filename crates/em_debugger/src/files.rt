@@ -33,7 +33,7 @@ use std::alloc::Global;
 use std::io::Write;
 
 /// Lines that were added.
-#[derive(Clone, Copy, PartialEq, Eq, Debug)]
+#[derive(Clone, Copy)]
 pub struct Added {
     /// How many they are.
     pub lines: usize,

@@ -25,6 +25,7 @@ mod laws;
 mod listing;
 mod lost;
 mod marks;
+mod matter;
 mod moves;
 mod next;
 mod nowhere;
@@ -42,6 +43,7 @@ mod warned;
 mod warnings;
 mod who;
 mod why;
+mod why_now;
 
 pub use compare::{Compared, Differing};
 pub use debugger::Debugger;

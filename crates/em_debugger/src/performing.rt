@@ -26,7 +26,7 @@ use em_warnings::write_found;
 use std::io::Write;
 
 /// A line that was performed: its number, and how it came out.
-#[derive(Clone, Copy, PartialEq, Eq, Debug)]
+#[derive(Clone, Copy)]
 pub(crate) struct Performed {
     pub(crate) line: usize,
     pub(crate) outcome: Outcome,

@@ -1,6 +1,6 @@
 //! What lines did that were played without their answers.
 ghost use Rattle.std.specs.Prelude.{◌≡◌, ◌∷◌, ◌++◌, [], List, Option};
-ghost use Rattle.em_script.specs.declared.runner.BenchFault.{BenchFault as Fault};
+ghost use Rattle.em_script.specs.declared.fault.BenchFault.{BenchFault as Fault};
 ghost use Rattle.em_text.specs.Writer.{Writes};
 ghost use Rattle.em_debugger.specs.declared.performing.Performed.{Performed as Line};
 ghost use Rattle.em_debugger.specs.declared.played.Played.{Played as Count};
@@ -17,7 +17,7 @@ use em_text::{WriteFailed, write_whole};
 use std::io::Write;
 
 /// How many lines were played, and which were refused or bad.
-#[derive(Clone, Copy, PartialEq, Eq, Debug)]
+#[derive(Clone, Copy)]
 pub(crate) struct Played {
     lines: u64,
     first: Option<Performed>,

@@ -13,7 +13,7 @@ use em_watch::{Difference, Watch, change_before, seen_back};
 use std::alloc::Global;
 
 /// A change, the event that made it, and what that was.
-#[derive(Clone, Copy, PartialEq, Eq, Debug)]
+#[derive(Clone, Copy)]
 pub(crate) struct Found {
     pub(crate) event: u64,
     pub(crate) note: Note,
@@ -21,7 +21,7 @@ pub(crate) struct Found {
 }
 
 /// What a search gave.
-#[derive(Clone, Copy, PartialEq, Eq, Debug)]
+#[derive(Clone, Copy)]
 pub(crate) enum Sought {
     Found(Found),
     /// No event changed it.

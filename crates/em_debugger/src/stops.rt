@@ -22,7 +22,7 @@ use em_watch::{Watch, last_change};
 use std::io::Write;
 
 /// Where a run ends.
-#[derive(Clone, Copy, PartialEq, Eq, Debug)]
+#[derive(Clone, Copy)]
 pub(crate) enum Stop {
     Refused,
     Dropped,
@@ -33,7 +33,7 @@ pub(crate) enum Stop {
 }
 
 /// How a run ended.
-#[derive(Clone, Copy, PartialEq, Eq, Debug)]
+#[derive(Clone, Copy)]
 pub(crate) enum Ran {
     /// Behind this line.
     Behind(Performed),

@@ -20,7 +20,7 @@ use em_warnings::{ALL_RULES, Rule, Warning, write_said};
 use std::io::Write;
 
 /// How many warnings there are, and of how many rules.
-#[derive(Clone, Copy, PartialEq, Eq, Debug)]
+#[derive(Clone, Copy)]
 struct Tally {
     warnings: u64,
     rules: u64,

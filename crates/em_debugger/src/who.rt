@@ -27,7 +27,7 @@ use itoa::Buffer;
 use std::io::Write;
 
 /// What was asked for last, and the event that was told.
-#[derive(Clone, Copy, PartialEq, Eq, Debug)]
+#[derive(Clone, Copy)]
 pub(crate) struct Asked {
     pub(crate) watch: Watch,
     pub(crate) event: u64,

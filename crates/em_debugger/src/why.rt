@@ -6,9 +6,10 @@ ghost use Rattle.em_step.specs.Event.{plain as plain_event};
 ghost use Rattle.em_text.specs.Writer.{Writes};
 ghost use Rattle.em_tape.specs.Texts.{texts};
 ghost use Rattle.em_debugger.specs.Performing.{heading_text};
-ghost use Rattle.em_debugger.specs.Why.{TellsLook, TellsLooks, TellsReason, TellsSetter, TellsWatch, TellsWhy};
-ghost use Rattle.em_debugger.specs.Why.{TellsWhyAt, TellsWhyOf, event_asked, found_setter, front_text, is_undone};
-ghost use Rattle.em_debugger.specs.Why.{look_line, newest_undone, setter_text, unseen_setter};
+ghost use Rattle.em_debugger.specs.Why.{TellsLook, TellsLooks, TellsReason, TellsSetter, TellsWatch, TellsWhyAt};
+ghost use Rattle.em_debugger.specs.Why.{TellsWhyLine, TellsWhyNewest, TellsWhyOf, event_asked, found_setter, front_text};
+ghost use Rattle.em_debugger.specs.Why.{is_dropped, is_such, is_undone, look_line, newest_such, none_text, setter_text};
+ghost use Rattle.em_debugger.specs.Why.{unseen_setter};
 
 use crate::debugger::Debugger;
 use crate::deeper::{Unseen, behind, write_too_long};
@@ -18,6 +19,7 @@ use crate::search::{Found, Sought, search};
 use crate::told::Told;
 use crate::who::write_event;
 use em_explain::{looked_at, watch_of, write_explained, write_look};
+use em_looks::write_number;
 use em_reasons::Look;
 use em_script::{Outcome, Refused};
 use em_step::{Answer, Event};
@@ -26,31 +28,66 @@ use em_text::{WriteFailed, write_pieces, write_whole};
 use em_watch::Watch;
 use std::io::Write;
 
+/// Which lines are asked about.
+#[derive(Clone, Copy)]
+pub(crate) enum Such {
+    /// Those that did nothing.
+    Undone,
+    /// Those whose frame was dropped.
+    Dropped,
+}
+
 impl Debugger {
-    /// Tells of the newest line up to the place whose event did nothing why that was, what the test looked at, and which
-    /// events set it.
-    pub(crate) fn why<W: Write>(&self, writer: &mut W) -> Result<(), WriteFailed>
+    /// Tells of the newest such line up to the place why its event did nothing, what the test looked at, and which events
+    /// set it.
+    pub(crate) fn why_newest<W: Write>(&self, writer: &mut W, such: Such) -> Result<(), WriteFailed>
         ensures ok { OnOk result ((text : List ℕ) × Appends (W.contents writer.old) (W.contents writer.new) text
-            × TellsWhy self.now text) }
+            × TellsWhyNewest such self.now text) }
     {
-        let line = self.newest_undone(line_here(&self.tape));
+        let line = self.newest_such(such, line_here(&self.tape));
         if line == 0 {
-            return write_whole(
-                writer,
-                b"no step was idle, no frame dropped, nothing refused\n",
-            );
+            return write_none(writer, such);
         }
         self.why_of(writer, line)
     }
 
-    /// Of the first so many lines the newest that did nothing; 0 where none did.
-    fn newest_undone(&self, last: usize) -> usize
-        ensures newest { result ≡ newest_undone self.now last }
+    /// Tells the same of the line of a number.
+    pub(crate) fn why_line<W: Write>(&self, writer: &mut W, line: usize) -> Result<(), WriteFailed>
+        ensures ok { OnOk result ((text : List ℕ) × Appends (W.contents writer.old) (W.contents writer.new) text
+            × TellsWhyLine self.now line text) }
+    {
+        if line_here(&self.tape) < line {
+            return write_number(
+                writer,
+                b"line ",
+                line as u64,
+                b" does not stand before the place\n",
+            );
+        }
+        if is_undone(self.came.of(line)) {
+            self.why_of(writer, line)
+        } else {
+            self.write_done(writer, line)
+        }
+    }
+
+    /// Writes a line, and that it did something.
+    fn write_done<W: Write>(&self, writer: &mut W, line: usize) -> Result<(), WriteFailed>
+        ensures writes { Writes (W.contents writer.old) (W.contents writer.new) result
+            (heading_text self.now line ++ codes "  it was not idle, dropped or refused\n") }
+    {
+        self.write_heading(writer, line)?;
+        write_whole(writer, b"  it was not idle, dropped or refused\n")
+    }
+
+    /// Of the first so many lines the newest such one; 0 where there is none.
+    fn newest_such(&self, such: Such, last: usize) -> usize
+        ensures newest { result ≡ newest_such such self.now last }
         ensures within { result ≤ last }
     {
         let mut line = last;
         while line > 0 {
-            if is_undone(self.came.of(line)) {
+            if is_such(such, self.came.of(line)) {
                 return line;
             }
             line -= 1;
@@ -130,7 +167,7 @@ impl Debugger {
     }
 
     /// Writes what was looked at, each with the event that set it.
-    fn write_looks<W: Write>(
+    pub(crate) fn write_looks<W: Write>(
         &self,
         writer: &mut W,
         tape: &Tape,
@@ -237,6 +274,36 @@ fn write_found_setter<W: Write>(
     write_whole(writer, b"    ")?;
     write_event(writer, marks, tape, found.event, Some(found.note))?;
     write_whole(writer, b"\n")
+}
+
+/// Writes that no line came out so.
+fn write_none<W: Write>(writer: &mut W, such: Such) -> Result<(), WriteFailed>
+    ensures writes { Writes (W.contents writer.old) (W.contents writer.new) result (none_text such) }
+{
+    match such {
+        Such::Undone => write_whole(
+            writer,
+            b"no step was idle, no frame dropped, nothing refused\n",
+        ),
+        Such::Dropped => write_whole(writer, b"no frame was dropped\n"),
+    }
+}
+
+/// Whether a line came out in such a way.
+fn is_such(such: Such, outcome: Outcome) -> bool
+    ensures { result ≡ is_such such outcome }
+{
+    match such {
+        Such::Undone => is_undone(outcome),
+        Such::Dropped => is_dropped(outcome),
+    }
+}
+
+/// Whether a line's frame was dropped.
+fn is_dropped(outcome: Outcome) -> bool
+    ensures { result ≡ is_dropped outcome }
+{
+    matches!(outcome, Outcome::Answered(Answer::Dropped(_)))
 }
 
 /// Whether a line did nothing that came out so: an engine's step was idle, a frame was dropped, or it was refused. A call

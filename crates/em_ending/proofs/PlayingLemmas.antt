@@ -4,11 +4,11 @@ use Rattle.std.proofs.Common.{inl, inr, refl}
 use Rattle.std.specs.Prelude.{IfOk, IfSome, IsErrOf}
 use Rattle.std.specs.Io.KnownBytes.{Appends, Keeps}
 use Rattle.em_text.specs.Reader.{most_script}
-use Rattle.em_script.specs.declared.runner.BenchFault.{BenchFault}
-use Rattle.em_script.specs.declared.runner.BenchFault.TheVariants as fault
-use Rattle.em_script.specs.declared.summary.Summary.{Summary}
+use Rattle.em_script.specs.declared.fault.BenchFault.{BenchFault}
+use Rattle.em_script.specs.declared.fault.BenchFault.TheVariants as fault
+use Rattle.em_run.specs.declared.summary.Summary.{Summary}
 use Rattle.em_script.specs.Session.{Session}
-use Rattle.em_script.specs.Runner.{Answers, FailsInLine, ReadsWhole, StopsBeforeLine}
+use Rattle.em_run.specs.Runner.{Answers, FailsInLine, ReadsWhole, StopsBeforeLine}
 use Rattle.em_ending.specs.Playing.{Leaves}
 
 -- the clauses of `run`, put together

@@ -10,10 +10,10 @@ use Rattle.em_journal.specs.Settings.{name_of as refusal_name, IsRefusedAs}
 use Rattle.em_journal.specs.declared.settings.Settings.{Settings}
 use Rattle.em_journal.specs.declared.settings.SettingsRefusal.{SettingsRefusal}
 use Rattle.em_journal.specs.declared.settings.SettingsRefusal.TheVariants as settings
-use Rattle.em_script.specs.Runner.{name_of as fault_name}
-use Rattle.em_script.specs.declared.runner.BenchFault.{BenchFault}
-use Rattle.em_script.specs.declared.runner.BenchFault.TheVariants as fault
-use Rattle.em_script.specs.declared.summary.Summary.{Summary}
+use Rattle.em_script.specs.Fault.{name_of as fault_name}
+use Rattle.em_script.specs.declared.fault.BenchFault.{BenchFault}
+use Rattle.em_script.specs.declared.fault.BenchFault.TheVariants as fault
+use Rattle.em_run.specs.declared.summary.Summary.{Summary}
 use Rattle.em_ending.specs.declared.ending.Ending.{Ending}
 use Rattle.em_ending.specs.declared.ending.Ending.TheVariants.{Ran, Help, Parser, Mac, Size, Budget, Fault}
 use Rattle.em_options.specs.declared.settings.OptionsRefused.{OptionsRefused}

@@ -2,11 +2,11 @@
 use Rattle.std.specs.Prelude.{◌≡◌, ◌<◌, ◌⊎◌, ℕ, List, [], length, Option, IfSome, Result, Ok, Err}
 use Rattle.std.specs.Io.KnownBytes.{Keeps}
 use Rattle.em_text.specs.Reader.{most_script}
-use Rattle.em_script.specs.declared.runner.BenchFault.{BenchFault}
-use Rattle.em_script.specs.declared.runner.BenchFault.TheVariants as fault
-use Rattle.em_script.specs.declared.summary.Summary.{Summary}
+use Rattle.em_script.specs.declared.fault.BenchFault.{BenchFault}
+use Rattle.em_script.specs.declared.fault.BenchFault.TheVariants as fault
+use Rattle.em_run.specs.declared.summary.Summary.{Summary}
 use Rattle.em_script.specs.Session.{Session}
-use Rattle.em_script.specs.Runner.{Answers, FailsInLine, ReadsWhole, StopsBeforeLine}
+use Rattle.em_run.specs.Runner.{Answers, FailsInLine, ReadsWhole, StopsBeforeLine}
 use Rattle.em_ending.specs.Ending.{ending_of_run}
 use Rattle.em_ending.specs.declared.ending.Ending.{Ending}
 use Rattle.em_ending.specs.declared.ending.Ending.TheVariants.{Fault}

@@ -10,7 +10,8 @@ ghost use Rattle.em_ending.specs.Ending.{memory_or, status_of, told_text};
 use clap::error::ErrorKind;
 use em_journal::SettingsRefusal;
 use em_options::OptionsRefused;
-use em_script::{BenchFault, Summary};
+use em_run::Summary;
+use em_script::BenchFault;
 use em_text::{WriteFailed, write_pieces};
 use std::io::{self, Write};
 
@@ -27,7 +28,7 @@ const BAD_WORDS: u8 = 2;
 const STOPPED: u8 = 3;
 
 /// How a run of the program ends.
-#[derive(Clone, Copy, PartialEq, Eq, Debug)]
+#[derive(Clone, Copy)]
 pub enum Ending {
     /// The script was run to its end.
     Ran(Summary),

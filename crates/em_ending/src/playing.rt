@@ -3,7 +3,8 @@ ghost use Rattle.std.specs.Io.Buffered.{writer_buffer, writer_contents};
 ghost use Rattle.em_ending.specs.Playing.{Plays};
 
 use crate::ending::Ending;
-use em_script::{BenchFault, Session, run};
+use em_run::run;
+use em_script::{BenchFault, Session};
 use std::alloc::Global;
 use std::io::{BufWriter, Read, Write};
 

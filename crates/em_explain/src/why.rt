@@ -96,7 +96,7 @@ fn why_undone(machine: &Machine, event: Event<'_>, undone: Undone) -> Option<Why
     }
 }
 
-/// Why a step was idle.
+/// Why a step is idle, as the machine is; none where it is not, or where the event is no step.
 fn why_idle(machine: &Machine, event: Event<'_>) -> Option<Why>
     ensures { result ≡ idle_why machine.now.present (plain event.entry) }
 {

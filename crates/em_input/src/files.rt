@@ -13,7 +13,7 @@ const STANDARD_INPUT: &str = "-";
 const DEVICE: &str = "/dev/stdin";
 
 /// Why there is no script.
-#[derive(Clone, Copy, Debug, PartialEq, Eq)]
+#[derive(Clone, Copy)]
 pub enum InputRefused {
     /// There is no such file.
     Missing,

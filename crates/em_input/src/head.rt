@@ -11,7 +11,7 @@ const OPTIONS: usize = 5;
 
 /// What a machine is made of, as far as the first line of a script says it by the words of em_debug's command line:
 /// `# em_debug --memory 128M --base 80000000`.
-#[derive(Clone, Copy, Debug)]
+#[derive(Clone, Copy)]
 pub struct Head {
     pub memory: Option<u64>,
     pub base: Option<u64>,

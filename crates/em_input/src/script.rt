@@ -16,7 +16,7 @@ const MOST_READS: usize = MOST_INPUT + 1;
 const PIECE_OCTETS: usize = 65_536;
 
 /// Why a script could not be read.
-#[derive(Clone, Copy, Debug, PartialEq, Eq)]
+#[derive(Clone, Copy)]
 pub enum InputFault {
     /// The reader failed.
     Read,

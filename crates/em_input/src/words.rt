@@ -42,7 +42,7 @@ pub struct MachineWords {
 }
 
 /// What the word before one is to it.
-#[derive(Clone, Copy, PartialEq, Eq, Debug)]
+#[derive(Clone, Copy)]
 enum Awaits {
     /// `--mac`, which an address follows.
     Mac,
@@ -60,7 +60,7 @@ enum Awaits {
 }
 
 /// Why a word is refused.
-#[derive(Clone, Copy, PartialEq, Eq, Debug)]
+#[derive(Clone, Copy)]
 pub enum WordRefused {
     /// What stands behind `--base` is no address.
     Base,

@@ -17,7 +17,7 @@ const MOST_NAME: usize = 4_096;
 const REPLACED: u8 = b'?';
 
 /// Where a call comes from, as its caller says.
-#[derive(Clone, Copy, Debug)]
+#[derive(Clone, Copy)]
 pub enum Source<'a> {
     /// Nobody says where.
     Unknown,

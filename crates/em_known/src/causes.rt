@@ -18,7 +18,7 @@ const EN: u32 = 1 << 1;
 
 /// What happened so far that a known difference rests on. Behind a line that takes events back, or does more than one, no
 /// cause stands.
-#[derive(Clone, Copy, PartialEq, Eq, Debug)]
+#[derive(Clone, Copy)]
 pub struct Causes {
     /// CTRL was written since the last reset.
     pub ctrl: bool,

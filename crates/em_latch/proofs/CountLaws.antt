@@ -1,12 +1,15 @@
 -- By how much words grow when causes are raised and pairs are counted.
-use Rattle.std.proofs.Common.{◌≡◌, ◌≢◌, ℕ, ◌+◌, ◌-◌, ◌*◌, ◌/◌, ◌%◌, ◌^◌, ◌<◌, ◌∙◌, ap, arith}
+use Rattle.std.proofs.Common.{◌≡◌, ◌≢◌, ℕ, ◌+◌, ◌-◌, ◌*◌, ◌/◌, ◌%◌, ◌^◌, ◌<◌, ◌∙◌, ap, arith, Bool, true, false, cond, Option, Some, refl, sym}
 use Rattle.std.specs.Prelude.{bit_and, bit_or, min}
+use Rattle.std.specs.Cmp.{nat_cmp_total}
 use Rattle.std.specs.FinMap as map
+use Rattle.std.specs.FinMap.{get-insert, same_map, nat_cmp-IsAntisymmetric}
+use Rattle.std.specs.Ordering.{nat_cmp, eq_by_cmp}
 use Rattle.std.specs.Int.Bits.{or_add_and}
 use Rattle.std.proofs.lemmas.Nat.{and_le_r}
 use Rattle.em_regs.specs.Storage.{Registers}
 use Rattle.em_regs.specs.RegFile.{at}
-use Rattle.em_regs.proofs.Entries.{at-insert_other}
+use Rattle.em_regs.proofs.Entries.{at-insert_other, is_tied}
 use Rattle.em_latch.specs.Latches.{grown}
 
 -- causes that are set grow by those that are new
@@ -52,3 +55,19 @@ pair_grown m between after lo hi {by} {step} {carry} apart s first second =
     ∙ ap (map.insert between hi) (grown_high s)
     ∙ ap (λ k. map.insert k hi (after_step (at m lo) (at m hi) by / 2 ^ 32)) first
     ∙ ap (λ v. map.insert (map.insert m lo v) hi (after_step (at m lo) (at m hi) by / 2 ^ 32)) (grown_low s)
+
+chosen : (b : Bool) (w : ℕ) (x : Option ℕ) → (b ≡ true → x ≡ Some w) → cond b (Some w) x ≡ x
+chosen true w x h = sym (h refl)
+chosen false w x h = refl
+
+-- a word that grows by nothing stays, and so do the registers
+pub nothing_grown : (m : Registers) (o : ℕ) → map.get m o ≡ Some (at m o) → at m o < 2 ^ 32
+    → m ≡ map.insert m o (grown (at m o) 0)
+nothing_grown m o had small =
+    let w : ℕ = at m o in
+    let same : grown w 0 ≡ w = omega (arith, small) in
+    let stays : map.insert m o w ≡ m
+    = same_map nat_cmp_total nat_cmp-IsAntisymmetric _ _ (λ q.
+    get-insert nat_cmp_total m o w q
+    ∙ chosen (eq_by_cmp nat_cmp q o) w (map.get m q) (λ t. ap (λ k. map.get m k) (is_tied q o t) ∙ had)) in
+    sym (ap (map.insert m o) same ∙ stays)

@@ -1,6 +1,6 @@
 -- Where the latches keep their words.
 use Rattle.std.proofs.Common.{◌≡◌, ℕ, ◌+◌, ◌<◌, Bool, true, ◌&&◌, ◌||◌, ◌==◌, List, nat_lt, length}
-use Rattle.std.proofs.Common.{refl, ap, ◌∙◌, arith, eqb-true, get_or, set, Some}
+use Rattle.std.proofs.Common.{refl, sym, subst, ap, ◌∙◌, arith, eqb-true, get_or, set, Some}
 use Rattle.std.specs.Prelude.{not, unwrap_or}
 use Rattle.std.proofs.lemmas.Bool.{and_parts}
 use Rattle.std.proofs.lemmas.Bool.Decides.{nat_tests}
@@ -76,6 +76,16 @@ is_place ws m i h size is = record {
 pub at_place : (ws : List ℕ) (m : Registers) (i : ℕ) → i < WORDS → length ws ≡ WORDS → words_at offsets ws ≡ m
     → at m (get_or offsets i 0) ≡ get_or ws i 0
 at_place ws m i h size is = ap (λ x. unwrap_or x 0) (word_is (is_place ws m i h size is))
+
+-- and that it holds something there
+pub has_place : (ws : List ℕ) (m : Registers) (reg : Reg) → IsWord reg → length ws ≡ WORDS → words_at offsets ws ≡ m
+    → map.get m (offset_of reg) ≡ Some (at m (offset_of reg))
+has_place ws m reg is_reg size is =
+    let i : ℕ = word_place reg in
+    let within : i < WORDS = place_within reg is_reg in
+    let place : get_or offsets i 0 ≡ offset_of reg = place_is reg is_reg in
+    subst (λ (o : ℕ). map.get m o ≡ Some (at m o)) place
+    (word_is (is_place ws m i within size is) ∙ ap Some (sym (at_place ws m i within size is)))
 
 -- ---- a word that is stored, of which the old one is given
 -- place i held w, and v is written there

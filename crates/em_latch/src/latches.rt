@@ -1,5 +1,5 @@
 //! The interrupt causes, their mask and the counters.
-ghost use Rattle.std.specs.Prelude.{◌≡◌, ◌≢◌, ◌+◌, ◌≤◌, ◌<◌, ◌↔◌, IsTrue, Some, slice_index};
+ghost use Rattle.std.specs.Prelude.{◌^◌, ◌≡◌, ◌≢◌, ◌+◌, ◌≤◌, ◌<◌, ◌↔◌, IsTrue, Some, slice_index};
 ghost use Rattle.std.specs.FinMap as map;
 ghost use Rattle.em_regs.specs.Table.{offset_of};
 ghost use Rattle.em_regs.specs.Storage.{Registers, words_at};
@@ -175,7 +175,7 @@ impl Latches {
         ensures reverses { (base : Registers) → Reverses base self.old undo.old → Reverses base self.new undo.new }
     {
         let set = self.word(Reg::Icr);
-        self.grow(Reg::Icr, causes - (set & causes), undo);
+        self.grow_if(Reg::Icr, causes - (set & causes), undo);
     }
 
     /// Steps a counter by some number, and adds the growths to a record.
@@ -262,6 +262,35 @@ impl Latches {
         undo.push(Growth { place, by });
     }
 
+    /// Lets a word grow by what may be nothing, and adds that to a record where it is not: the causes are mostly set
+    /// already, and the high half of a pair seldom grows.
+    #[inline(always)]
+    fn grow_if(&mut self, reg: Reg, by: u32, undo: &mut LatchUndo)
+        requires word { IsWord reg }
+        requires room { octets_of undo.old + octets_for by ≤ MOST_OCTETS }
+        ensures state { self.new
+            ≡ map.insert self.old (offset_of reg) (grown (registers.at self.old (offset_of reg)) by) }
+        ensures octets { octets_of undo.new ≤ octets_of undo.old + octets_for by }
+        ensures reverses { (base : Registers) → Reverses base self.old undo.old → Reverses base self.new undo.new }
+    {
+        if by == 0 {
+            self.has_word(reg);
+            return;
+        }
+        self.grow(reg, by, undo);
+    }
+
+    /// A register's word is there, so that to store it as it is changes nothing.
+    #[inline(always)]
+    fn has_word(&self, reg: Reg)
+        requires { IsWord reg }
+        ensures there { map.get self.now (offset_of reg) ≡ Some (registers.at self.now (offset_of reg)) }
+        ensures small { registers.at self.now (offset_of reg) < 2 ^ 32 }
+    {
+        let _ = &self.words;
+        let _ = self.word(reg);
+    }
+
     /// Stores a word, and adds its growth to a record: five octets at most.
     #[inline(always)]
     fn replace(&mut self, reg: Reg, value: u32, undo: &mut LatchUndo)
@@ -321,7 +350,7 @@ impl Latches {
         let step = u64::from(by).min(u64::MAX - old);
         let carry = (low_word + step) / WORD_RANGE;
         self.grow(low, step as u32, undo);
-        self.grow(high, carry as u32, undo);
+        self.grow_if(high, carry as u32, undo);
     }
 }
 

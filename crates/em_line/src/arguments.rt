@@ -6,7 +6,7 @@ ghost use Rattle.em_text.specs.Words.{words_of};
 use em_text::Words;
 
 /// The words behind a command's name, by how many they are.
-#[derive(Clone, Copy, Debug)]
+#[derive(Clone, Copy)]
 pub enum Arguments<'a> {
     Zero,
     One(&'a [u8]),

@@ -8,7 +8,7 @@ use crate::peek_len::PeekLen;
 use em_step::Event;
 
 /// What to do with a machine. The octets that an event writes are borrowed.
-#[derive(Clone, Copy, Debug)]
+#[derive(Clone, Copy)]
 pub enum Command<'a> {
     Event(Event<'a>),
     /// Show octets of guest memory, from an address on.

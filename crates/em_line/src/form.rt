@@ -19,7 +19,7 @@ use em_text::{Words, is_name};
 
 /// The form of a line by its name. Words that bring octets, or ask something of a driver, or say a plan, are not read yet:
 /// such a line may still be bad.
-#[derive(Clone, Copy, Debug)]
+#[derive(Clone, Copy)]
 pub enum LineForm<'a> {
     /// It has no word, or is a comment.
     Silent,

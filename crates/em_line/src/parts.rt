@@ -22,7 +22,7 @@ const EQUALS: u8 = b'=';
 const AT: u8 = b'@';
 
 /// The parts of a line, as they stand.
-#[derive(Clone, Copy, Debug)]
+#[derive(Clone, Copy)]
 pub struct Parts<'a> {
     /// What the line says, without blanks at its end; the whole line as it is where nothing stands behind that.
     pub said: &'a [u8],

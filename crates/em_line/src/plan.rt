@@ -14,7 +14,7 @@ use std::collections::VecDeque;
 use std::mem;
 
 /// Words that say a plan.
-#[derive(Clone, Copy, Debug)]
+#[derive(Clone, Copy)]
 pub struct PlanWords<'a> {
     pub words: Words<'a>,
     ghost say: { IsSome (plan_of (words_of words.0.now)) },

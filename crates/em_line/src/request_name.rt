@@ -5,7 +5,7 @@ ghost use Rattle.em_line.specs.Request.{request_named};
 use em_text::is_name;
 
 /// What a line asks of a driver, by its name.
-#[derive(Clone, Copy, PartialEq, Eq, Debug)]
+#[derive(Clone, Copy)]
 pub enum RequestName {
     /// That it starts.
     Start,

@@ -8,7 +8,7 @@ ghost use Rattle.em_line.specs.TurnWord.{plain, turn_word, arrival_word, frame_p
 use crate::arguments::Arguments;
 
 /// What a word of a plan says. The octets of a frame are not read yet.
-#[derive(Clone, Copy, Debug)]
+#[derive(Clone, Copy)]
 pub enum TurnWord<'a> {
     /// No more turns before this access.
     End,

@@ -12,7 +12,7 @@ use crate::told::{Access, Told, Way, Width};
 pub(crate) const SPACE: u64 = 0x2_0000;
 
 /// What a log looks like.
-#[derive(Clone, Copy, PartialEq, Eq, Debug)]
+#[derive(Clone, Copy)]
 pub enum Form {
     /// QEMU's trace events `memory_region_ops_read` and `memory_region_ops_write`.
     Qemu,
@@ -23,7 +23,7 @@ pub enum Form {
 }
 
 /// An access of the adapter's registers.
-#[derive(Clone, Copy, PartialEq, Eq, Debug)]
+#[derive(Clone, Copy, PartialEq, Eq)]
 pub struct RegisterAccess {
     pub way: Way,
     /// In octets from the first register, below 20000h. A register need not lie there.
@@ -34,7 +34,7 @@ pub struct RegisterAccess {
 }
 
 /// What a line of a log is.
-#[derive(Clone, Copy, PartialEq, Eq, Debug)]
+#[derive(Clone, Copy)]
 pub enum Entry {
     Access(RegisterAccess),
     /// An access of something else: of another region, or outside of the adapter's registers.
@@ -48,7 +48,7 @@ pub enum Entry {
 }
 
 /// How far a log is read.
-#[derive(Clone, Copy, Debug)]
+#[derive(Clone, Copy)]
 pub struct Log<'a> {
     form: Option<Form>,
     region: &'a [u8],

@@ -23,7 +23,7 @@ pub(crate) enum Said {
 }
 
 /// What a driver wrote into guest memory.
-#[derive(Clone, Copy, Debug)]
+#[derive(Clone, Copy)]
 pub struct MemoryWrite<'a> {
     pub address: u64,
     /// The octets, each as two hexadecimal digits: two digits or more.

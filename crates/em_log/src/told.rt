@@ -3,14 +3,14 @@ ghost use Rattle.std.specs.Prelude.{◌≡◌};
 ghost use Rattle.em_log.specs.Told.{octets_of, width_of, fits, access_of};
 
 /// Which way an access goes.
-#[derive(Clone, Copy, PartialEq, Eq, Debug)]
+#[derive(Clone, Copy, PartialEq, Eq)]
 pub enum Way {
     Read,
     Write,
 }
 
 /// How many octets an access has.
-#[derive(Clone, Copy, PartialEq, Eq, Debug)]
+#[derive(Clone, Copy, PartialEq, Eq)]
 pub enum Width {
     One,
     Two,
@@ -19,7 +19,7 @@ pub enum Width {
 }
 
 /// An access at an address.
-#[derive(Clone, Copy, PartialEq, Eq, Debug)]
+#[derive(Clone, Copy)]
 pub struct Access {
     pub way: Way,
     pub address: u64,
@@ -29,7 +29,7 @@ pub struct Access {
 }
 
 /// What a line tells.
-#[derive(Clone, Copy, PartialEq, Eq, Debug)]
+#[derive(Clone, Copy)]
 pub(crate) enum Told {
     Access(Access),
     /// An access of another memory region.

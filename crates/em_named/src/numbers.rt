@@ -6,7 +6,7 @@ ghost use Rattle.em_named.specs.Numbers.{above, end_of, line_of, name_of, perfor
 use crate::did::{Did, Name};
 
 /// How many events the first so many lines performed.
-#[derive(Clone, Copy, PartialEq, Eq, Debug)]
+#[derive(Clone, Copy)]
 pub struct End {
     pub line: usize,
     pub events: u64,

@@ -13,7 +13,7 @@ use thiserror::Error;
 
 /// What the words of a command line ask for. That the size and the budget are allowed is decided
 /// where a machine is made of them.
-#[derive(Clone, Copy, PartialEq, Eq, Debug)]
+#[derive(Clone, Copy)]
 pub struct Options<'a> {
     /// How many octets the guest's memory is to have.
     pub memory: u64,

@@ -54,8 +54,10 @@ row_of command.Ring = (codes "ring", codes "ring rx|tx: shows the descriptors of
 row_of command.Frame =
     (codes "frame", codes "frame [I]: shows the frames that wait in the adapter, or octets of sent frame I, from 0")
 row_of command.Memory = (codes "memory", codes "memory ADDR LEN: shows guest memory in lines")
-row_of command.Why =
-    (codes "why", codes "why: the rule by which the newest event did nothing, and who set what it looked at")
+row_of command.Why = (
+  codes "why",
+  codes "why [rx|tx|line|dropped|LINE]: the rule by which an event did nothing, or a step would, and who set what it looks at",
+)
 row_of command.Warnings = (
   codes "warnings",
   codes "warnings [RULE]: what drivers got wrong, rule by rule or each place; on|off: says it behind lines, or not",

@@ -1,7 +1,7 @@
 -- What the words of a line are.
 use Rattle.std.specs.Prelude.{ℕ, List, codes}
 use Rattle.em_prompt.specs.declared.number.Number.TheVariants as number
-use Rattle.em_prompt.specs.declared.kind.Choice.TheVariants.{Way, Side, More, Until, Changes, Switch}
+use Rattle.em_prompt.specs.declared.kind.Choice.TheVariants.{Way, Side, More, Until, Changes, Switch, Matter}
 use Rattle.em_prompt.specs.declared.kind.Kind.{Kind}
 use Rattle.em_prompt.specs.declared.kind.Kind.TheVariants as kind
 
@@ -34,6 +34,7 @@ called (kind.Choice More) = codes "again or all"
 called (kind.Choice Until) = codes "until"
 called (kind.Choice Changes) = codes "changes"
 called (kind.Choice Switch) = codes "on or off"
+called (kind.Choice Matter) = codes "rx, tx, line, dropped or LINE"
 
 -- what is said of it, behind that, where a word is none
 abbrev pub rule : Kind → List ℕ

@@ -8,7 +8,7 @@ use Rattle.em_line.specs.Grammar.{turns_form}
 use Rattle.em_prompt.specs.declared.command.Command.{Command}
 use Rattle.em_prompt.specs.declared.command.Command.TheVariants as command
 use Rattle.em_prompt.specs.declared.kind.Choice.TheVariants.{Way as Ways, Side as Sides, Until as Untils, Changes as Change}
-use Rattle.em_prompt.specs.declared.kind.Choice.TheVariants.{Switch}
+use Rattle.em_prompt.specs.declared.kind.Choice.TheVariants.{Switch, Matter as Matters}
 use Rattle.em_prompt.specs.declared.kind.Kind.{Kind}
 use Rattle.em_prompt.specs.declared.kind.Kind.TheVariants.{Register, Known, Target, Value, Address, Data, Turn, Watch as Watches}
 use Rattle.em_prompt.specs.declared.kind.Kind.TheVariants.{File, Name, Number as Numbers, Choice}
@@ -20,7 +20,10 @@ use Rattle.em_regs.specs.declared.reg.Reg.{Reg}
 use Rattle.em_prompt.specs.declared.says.Way.{Way}
 use Rattle.em_prompt.specs.declared.says.Way.TheVariants.{Back, Forward}
 use Rattle.em_prompt.specs.declared.typed.Lines.TheVariants.{Here, Around, Between}
+use Rattle.em_prompt.specs.declared.typed.Matter.{Matter}
+use Rattle.em_prompt.specs.declared.typed.Matter.TheVariants as matter
 use Rattle.em_prompt.specs.declared.typed.Shown.TheVariants as shown
+use Rattle.em_prompt.specs.declared.typed.Side.TheVariants.{Receive, Transmit}
 use Rattle.em_prompt.specs.declared.typed.Which.{Which}
 use Rattle.em_prompt.specs.declared.typed.Which.TheVariants.{Newest}
 use Rattle.em_prompt.specs.declared.fault.Fault.{Fault as LentFault}
@@ -296,6 +299,24 @@ memory_of [] = Err (missing Address)
 memory_of (word ∷ words) =
     with (shown_address_in word) (λ addr. one (Numbers Peeked) (number_in Peeked) (λ len. typed.show (shown.Memory addr len)) words)
 
+-- a line of this number
+abbrev pub matter_line : Option ℕ → Result Matter Fault
+matter_line None = Err (no (Choice Matters))
+matter_line (Some n) = with (within LineNumber n) (λ n. Ok (matter.Line n))
+
+-- rx, tx, line, dropped, LINE
+abbrev pub matter_in : List ℕ → Result Matter Fault
+matter_in word =
+    if bytes_eq word (codes "rx") then Ok (matter.Step Receive) else
+    if bytes_eq word (codes "tx") then Ok (matter.Step Transmit) else
+    if bytes_eq word (codes "line") then Ok matter.Interrupt else
+    if bytes_eq word (codes "dropped") then Ok matter.Dropped else
+    matter_line (decimal_number word)
+
+-- why, and one of these
+abbrev pub why_of : List (List ℕ) → Result Typed Fault
+why_of words = one_or (typed.show (shown.Why matter.Newest)) matter_in (λ m. typed.show (shown.Why m)) words
+
 -- on, off, or RULE
 abbrev pub warnings_by : List ℕ → Typed
 warnings_by word =
@@ -355,7 +376,7 @@ says profile command.Effect rest = effect_of (words_of rest)
 says profile command.Ring rest = ring_of (words_of rest)
 says profile command.Frame rest = frame_of (words_of rest)
 says profile command.Memory rest = memory_of (words_of rest)
-says profile command.Why rest = alone (typed.show shown.Why) (words_of rest)
+says profile command.Why rest = why_of (words_of rest)
 says profile command.Warnings rest = warnings_of (words_of rest)
 says profile command.Auto rest = auto_of (words_of rest)
 says profile command.Help rest = help_of (words_of rest)

@@ -11,7 +11,7 @@ use em_text::{WriteFailed, write_octets, write_whole};
 use std::io::Write;
 
 /// A line of em_bench's: a command of its language, and the words behind the name as em_bench reads them.
-#[derive(Clone, Copy, Debug)]
+#[derive(Clone, Copy)]
 pub struct BenchLine<'a> {
     pub(crate) command: Command,
     pub(crate) words: KeptWords<'a>,

@@ -6,7 +6,7 @@ ghost use Rattle.em_prompt.specs.Command.{name_of, command_of, help_of, other_co
 use em_line::Look as Bench;
 
 /// A command: what the first word of a line names.
-#[derive(Clone, Copy, PartialEq, Eq, Debug)]
+#[derive(Clone, Copy)]
 pub enum Command {
     // em_bench's lines
     Read,
@@ -98,7 +98,8 @@ macro_rules! table {
             Ring, "ring", "ring rx|tx: shows the descriptors of a ring";
             Frame, "frame", "frame [I]: shows the frames that wait in the adapter, or octets of sent frame I, from 0";
             Memory, "memory", "memory ADDR LEN: shows guest memory in lines";
-            Why, "why", "why: the rule by which the newest event did nothing, and who set what it looked at";
+            Why, "why",
+                "why [rx|tx|line|dropped|LINE]: the rule by which an event did nothing, or a step would, and who set what it looks at";
             Warnings, "warnings",
                 "warnings [RULE]: what drivers got wrong, rule by rule or each place; on|off: says it behind lines, or not";
             Auto, "auto", "auto on|off: lets the engines run by themselves, or not";

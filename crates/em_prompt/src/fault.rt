@@ -4,7 +4,7 @@ use crate::kind::Kind;
 use em_regs::Reg;
 
 /// What is wrong with the words behind a name.
-#[derive(Clone, Copy, Debug)]
+#[derive(Clone, Copy)]
 pub enum Fault<'a> {
     /// A word of this kind is not there.
     Missing(Kind),

@@ -4,7 +4,7 @@ ghost use Rattle.std.specs.Str.{bytes_eq};
 ghost use Rattle.em_prompt.specs.Foreign.{foreign_called, here_of, row_of, word_of};
 
 /// A word of gdb's that is no command here.
-#[derive(Clone, Copy, PartialEq, Eq, Debug)]
+#[derive(Clone, Copy)]
 pub enum Foreign {
     Break,
     B,

@@ -3,7 +3,7 @@
 use crate::word::ADDRESS_DIGITS;
 
 /// A word as it is kept: what em_bench reads.
-#[derive(Clone, Copy, Debug)]
+#[derive(Clone, Copy)]
 pub(crate) enum Kept<'a> {
     /// These octets of the line.
     Word(&'a [u8]),
@@ -14,7 +14,7 @@ pub(crate) enum Kept<'a> {
 }
 
 /// The words behind a name, as they are kept.
-#[derive(Clone, Copy, Debug)]
+#[derive(Clone, Copy)]
 pub(crate) enum KeptWords<'a> {
     None,
     One(Kept<'a>),

@@ -5,7 +5,7 @@ ghost use Rattle.em_prompt.specs.Kind.{called, rule};
 use crate::number::Number;
 
 /// One of a few words.
-#[derive(Clone, Copy, PartialEq, Eq, Debug)]
+#[derive(Clone, Copy)]
 pub enum Choice {
     /// `up` or `down`.
     Way,
@@ -19,10 +19,12 @@ pub enum Choice {
     Changes,
     /// `on` or `off`.
     Switch,
+    /// `rx`, `tx`, `line`, `dropped`, or the number of a line.
+    Matter,
 }
 
 /// What a word of a line is.
-#[derive(Clone, Copy, PartialEq, Eq, Debug)]
+#[derive(Clone, Copy)]
 pub enum Kind {
     /// A register, by its name or its offset; any offset will do.
     Register,
@@ -87,6 +89,7 @@ impl Kind {
             Kind::Choice(Choice::Until) => "until",
             Kind::Choice(Choice::Changes) => "changes",
             Kind::Choice(Choice::Switch) => "on or off",
+            Kind::Choice(Choice::Matter) => "rx, tx, line, dropped or LINE",
         }
     }
 

@@ -39,7 +39,7 @@ pub use nowhere::{Nowhere, meant, nowhere_said};
 pub use number::Number;
 pub use prompt::prompted;
 pub use script_line::{is_plain, scripted};
-pub use typed::{Lines, Shown, Side, Target, Typed, Until, Which};
+pub use typed::{Lines, Matter, Shown, Side, Target, Typed, Until, Which};
 pub use watch::Watch;
 pub use watched_len::WatchedLen;
 pub use wrong::{Wrong, write_wrong};

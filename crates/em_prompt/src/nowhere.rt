@@ -17,7 +17,7 @@ use em_text::Words;
 const LEAST_LETTERS: usize = 3;
 
 /// An access that is answered, though no register lies there: a slip, where somebody typed it.
-#[derive(Clone, Copy, Debug)]
+#[derive(Clone, Copy)]
 pub struct Nowhere<'a> {
     /// Where no register lies.
     pub offset: u32,

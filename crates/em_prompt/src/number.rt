@@ -9,7 +9,7 @@ use crate::kind::Kind;
 use em_text::decimal_number;
 
 /// A number, by what it counts.
-#[derive(Clone, Copy, PartialEq, Eq, Debug)]
+#[derive(Clone, Copy)]
 pub enum Number {
     /// Octets that are shown: 1 to 16,384.
     Peeked,

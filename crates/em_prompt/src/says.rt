@@ -5,8 +5,8 @@ ghost use Rattle.em_text.specs.Words.{words_of};
 ghost use Rattle.em_line.specs.Grammar.{turns_form};
 ghost use Rattle.em_prompt.specs.Kept.{behind_text};
 ghost use Rattle.em_prompt.specs.Typed.{plain as plain_typed};
-ghost use Rattle.em_prompt.specs.Value.{file_so, read_with, watch_read_with};
-ghost use Rattle.em_prompt.specs.Says.{accesses_of, mark_of, plain, wrote_of};
+ghost use Rattle.em_prompt.specs.Value.{file_so, read_so, read_with, watch_read_with};
+ghost use Rattle.em_prompt.specs.Says.{accesses_of, mark_of, matter_in, plain, why_of, wrote_of};
 ghost use Rattle.em_prompt.specs.Says.{arrive_of, auto_of, bench, changes_of, effect_of, file_in, frame_line, frame_of};
 ghost use Rattle.em_prompt.specs.Says.{goto_of, help_of, history_of, lines_from, line_or_changes, link_of, list_of, look_of, mac_of, memory_of};
 ghost use Rattle.em_prompt.specs.Says.{move_of, moves_by, moves_to, next_of, number_if, peek_of, plan_of, poke_of, read_of, recv_of, ring_of};
@@ -20,7 +20,7 @@ use crate::kind::{Choice, Kind};
 use crate::number::Number;
 use crate::register::named;
 use crate::told::without_blanks;
-use crate::typed::{Lines, Shown, Typed, Until, Which};
+use crate::typed::{Lines, Matter, Shown, Side, Typed, Until, Which};
 use crate::value::{
     address_in, begins_with_letter, command_in, data_in, ethernet_in, frame_len_in, known_in,
     last_line_in, name_in, offset_in, phy_word_in, shown_address_in, side_in, switch_in, target_in,
@@ -35,7 +35,7 @@ use em_regs::Profile;
 use em_text::{Words, decimal_number, is_name};
 
 /// Which way a move goes.
-#[derive(Clone, Copy, Debug)]
+#[derive(Clone, Copy)]
 enum Way {
     Back,
     Forward,
@@ -107,7 +107,7 @@ pub(crate) fn says<'a>(profile: Profile, command: Command, words: Words<'a>) -> 
         Command::Ring => ring_of(words),
         Command::Frame => frame_of(words),
         Command::Memory => memory_of(words),
-        Command::Why => alone(Typed::Show(Shown::Why), words),
+        Command::Why => why_of(words),
         Command::Warnings => warnings_of(words),
         Command::Auto => auto_of(words),
         Command::Help => help_of(words),
@@ -525,6 +525,41 @@ fn memory_of<'a>(mut words: Words<'a>) -> Result<Typed<'a>, Fault<'a>>
     let address = shown_address_in(next(&mut words, Kind::Address)?)?;
     let len = Number::Peeked.of(next(&mut words, Kind::Number(Number::Peeked))?)?;
     alone(Typed::Show(Shown::Memory(address, len)), words)
+}
+
+/// why, why rx, why tx, why line, why dropped, why LINE
+fn why_of<'a>(mut words: Words<'a>) -> Result<Typed<'a>, Fault<'a>>
+    ensures { plain result ≡ why_of (words_of words.entry.0.now) }
+{
+    match words.next() {
+        None => Ok(Typed::Show(Shown::Why(Matter::Newest))),
+        Some(word) => {
+            let matter = matter_in(word)?;
+            alone(Typed::Show(Shown::Why(matter)), words)
+        }
+    }
+}
+
+/// rx, tx, line, dropped, LINE
+fn matter_in(word: &[u8]) -> Result<Matter, Fault<'_>>
+    ensures { read_so result ≡ matter_in word.now }
+{
+    if is_name(word, b"rx") {
+        return Ok(Matter::Step(Side::Receive));
+    }
+    if is_name(word, b"tx") {
+        return Ok(Matter::Step(Side::Transmit));
+    }
+    if is_name(word, b"line") {
+        return Ok(Matter::Interrupt);
+    }
+    if is_name(word, b"dropped") {
+        return Ok(Matter::Dropped);
+    }
+    match decimal_number(word) {
+        Some(number) => Ok(Matter::Line(Number::Line.within(number)?)),
+        None => Err(Fault::No(Kind::Choice(Choice::Matter))),
+    }
 }
 
 /// warnings, warnings on, warnings off, warnings RULE

@@ -6,14 +6,14 @@ use crate::watch::Watch;
 use em_regs::Reg;
 
 /// A ring of descriptors.
-#[derive(Clone, Copy, PartialEq, Eq, Debug)]
+#[derive(Clone, Copy)]
 pub enum Side {
     Receive,
     Transmit,
 }
 
 /// Which changes of a watched thing.
-#[derive(Clone, Copy, PartialEq, Eq, Debug)]
+#[derive(Clone, Copy)]
 pub enum Which {
     /// The newest one.
     Newest,
@@ -23,7 +23,7 @@ pub enum Which {
 }
 
 /// Where a run ends.
-#[derive(Clone, Copy, PartialEq, Eq, Debug)]
+#[derive(Clone, Copy)]
 pub enum Until {
     /// Where an event is refused.
     Refused,
@@ -40,7 +40,7 @@ pub enum Until {
 }
 
 /// Which lines of a script.
-#[derive(Clone, Copy, PartialEq, Eq, Debug)]
+#[derive(Clone, Copy)]
 pub enum Lines {
     /// Those around the place.
     Here,
@@ -51,15 +51,30 @@ pub enum Lines {
 }
 
 /// What is accessed.
-#[derive(Clone, Copy, PartialEq, Eq, Debug)]
+#[derive(Clone, Copy)]
 pub enum Target {
     Register(Reg),
     /// The octet of guest memory at an address.
     Octet(u64),
 }
 
+/// What `why` asks about.
+#[derive(Clone, Copy)]
+pub enum Matter {
+    /// The newest event that did nothing.
+    Newest,
+    /// The newest frame that was dropped.
+    Dropped,
+    /// The event of the line of this number.
+    Line(u32),
+    /// A step of an engine, as things are now.
+    Step(Side),
+    /// The interrupt line, as it is now.
+    Interrupt,
+}
+
 /// What is shown, and changes nothing.
-#[derive(Clone, Copy, PartialEq, Eq, Debug)]
+#[derive(Clone, Copy)]
 pub enum Shown {
     Look(Reg),
     /// Lines of the script.
@@ -78,8 +93,8 @@ pub enum Shown {
     Memory(u64, u32),
     /// The places that have names.
     Marks,
-    /// Why the newest event did nothing.
-    Why,
+    /// Why an event did nothing, or why things are as they are.
+    Why(Matter),
     /// What drivers get wrong, rule by rule.
     Warnings,
     /// The help, whole or for one command.
@@ -87,7 +102,7 @@ pub enum Shown {
 }
 
 /// What a line says.
-#[derive(Clone, Copy, Debug)]
+#[derive(Clone, Copy)]
 pub enum Typed<'a> {
     /// Nothing: a line without a word, or a comment.
     Silent,

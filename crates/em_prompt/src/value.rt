@@ -35,7 +35,7 @@ const MOST_LEN: u32 = 32_768;
 const DIGITS_OF_OCTET: usize = 2;
 
 /// OFF as it is kept, and the register that lies there.
-#[derive(Clone, Copy, Debug)]
+#[derive(Clone, Copy)]
 pub(crate) struct Offset<'a> {
     pub(crate) kept: Kept<'a>,
     pub(crate) reg: Option<Reg>,

@@ -10,7 +10,7 @@ use em_regs::{Profile, Reg};
 use em_text::is_name;
 
 /// What is watched.
-#[derive(Clone, Copy, PartialEq, Eq, Debug)]
+#[derive(Clone, Copy)]
 pub enum Watch {
     Register(Reg),
     /// So many octets of guest memory, from an address on.

@@ -7,7 +7,7 @@ use crate::fault::Fault;
 use crate::number::Number;
 
 /// How many octets of guest memory are watched: 1 to 16.
-#[derive(Clone, Copy, PartialEq, Eq, Debug)]
+#[derive(Clone, Copy)]
 pub struct WatchedLen {
     octets: u32,
     ghost least: { least Watched ≤ octets },

@@ -19,7 +19,7 @@ use itoa::Buffer;
 use std::io::Write;
 
 /// What is wrong with a line.
-#[derive(Clone, Copy, Debug)]
+#[derive(Clone, Copy)]
 pub enum Wrong<'a> {
     /// Its first word is the name of no command.
     Unknown(&'a [u8]),

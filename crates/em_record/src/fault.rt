@@ -5,7 +5,7 @@ use em_text::WriteFailed;
 use std::alloc::AllocError;
 
 /// Why a record ends before its script does.
-#[derive(Clone, Copy, PartialEq, Eq, Debug)]
+#[derive(Clone, Copy)]
 pub enum RecordFault {
     /// The record could not be written, a line is too long, or memory was refused.
     Bench(BenchFault),

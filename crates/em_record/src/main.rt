@@ -102,7 +102,7 @@ fn with_words<R: Files + Input + Print + Eprint + AllocGlobal>(rt: &R, words: &M
 
 /// What is to be printed, where the words ask for help or the version.
 fn asked(words: &[String], refused: &OptionsRefused) -> Option<&'static str> {
-    if Ending::without_options(refused) != Ending::Help {
+    if !matches!(Ending::without_options(refused), Ending::Help) {
         return None;
     }
     for word in words {

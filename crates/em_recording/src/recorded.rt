@@ -4,14 +4,14 @@ use em_regs::Reg;
 use em_watch::MemoryChange;
 
 /// What a thing was before an event, and after it.
-#[derive(Clone, Copy, PartialEq, Eq, Debug)]
+#[derive(Clone, Copy)]
 pub struct Step<T> {
     pub before: T,
     pub after: T,
 }
 
 /// A register that an event changed.
-#[derive(Clone, Copy, PartialEq, Eq, Debug)]
+#[derive(Clone, Copy)]
 pub struct RegisterStep {
     pub reg: Reg,
     pub before: u32,

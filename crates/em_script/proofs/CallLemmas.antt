@@ -32,7 +32,7 @@ use Rattle.em_script.specs.Reply.{step_call, back_call, call_reply, done_reply, 
 use Rattle.em_script.specs.Reply.{line_calls, after_line, after_plan, IsAllowed, IsAllowedTo}
 use Rattle.em_script.specs.PlayedLine.{PlayedLine, AreAllowed, played_calls, after_played, calls, after_all}
 use Rattle.em_line.specs.Grammar.{parsed_line}
-use Rattle.em_script.specs.Runner.{IsFold}
+use Rattle.em_script.specs.ScriptText.{IsFold}
 
 -- one call
 run_one : (v w : View) (call : Call) → Does v call w → Run v (call ∷ []) w

@@ -29,7 +29,7 @@ use Rattle.em_script.specs.Session.{Session}
 use Rattle.em_line.specs.Request.{Request, starts, sends, receives, stats, address, sets_address}
 use Rattle.em_script.specs.DriverAnswer as answers
 use Rattle.em_script.specs.DriverAnswer.{DriverAnswer, says_memory, call_text}
-use Rattle.em_script.specs.Runner.{SaysMemory}
+use Rattle.em_script.specs.ScriptText.{SaysMemory}
 use Rattle.em_script.specs.Calling.{holds_init, init_layout, no_stats, course_of, world_at, CanBeDone}
 use Rattle.em_script.proofs.DriverAnswerLemmas.{call_says}
 

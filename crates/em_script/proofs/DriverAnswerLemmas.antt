@@ -10,7 +10,7 @@ use Rattle.em_driver.specs.Play.{Played, wants_memory}
 use Rattle.em_driver.specs.TellsMemory.{is_memory}
 use Rattle.em_driver.specs.declared.outcome.Cause.{Cause}
 use Rattle.em_driver.specs.declared.outcome.Cause.TheVariants.{Memory, Layout, Checksum, Queue, PacketLength, Broken}
-use Rattle.em_script.specs.Runner.{SaysMemory}
+use Rattle.em_script.specs.ScriptText.{SaysMemory}
 use Rattle.em_script.specs.DriverText.{stopped_text, turns_text}
 use Rattle.em_script.specs.DriverAnswer.{DriverAnswer, start, batch, stats, address, set, says_memory}
 use Rattle.em_script.specs.DriverAnswer.{driver_answer_text}

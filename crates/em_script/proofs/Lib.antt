@@ -1,8 +1,8 @@
 -- The laws of scripts, by the promises that rest on them. The folders here are the proofs of functions, by the modules
 -- of src of the same names.
 --
--- What is written is the text of the lines, and they are a run of calls (`run_lines`):
---      RunLemmas: one line after another; CallLemmas: the calls that lines make; PrintLemmas: a line in two parts
+-- What is written is the text of the lines, and they are a run of calls (`play`):
+--      CallLemmas: the calls that lines make; PrintLemmas: a line in two parts
 --      ReplyLemmas (`obey`, `perform_event`): what single commands do; SeatLemmas (`call_driver`): a driver between
 --      calls
 -- Where memory was refused, it is said (`a_request_is_played_or_says_so`):
@@ -12,7 +12,6 @@
 pub mod PrintLemmas
 pub mod SeatLemmas
 pub mod ReplyLemmas
-pub mod RunLemmas
 pub mod MemoryLemmas
 pub mod CallLemmas
 pub mod DriverAnswerLemmas

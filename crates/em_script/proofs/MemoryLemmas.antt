@@ -22,7 +22,7 @@ use Rattle.em_line.specs.Grammar.{parsed_line}
 use Rattle.em_script.specs.Reply.{line_text, line_takes_memory, IsAllowed as IsLineAllowed}
 use Rattle.em_script.specs.PlayedLine.{PlayedLine, played_text, after_played, AreAllowed, text_from, ArePlayed}
 use Rattle.em_script.specs.PlayedLine.{with_memory}
-use Rattle.em_script.specs.Runner.{TakesNoMemory, SaysMemory, text}
+use Rattle.em_script.specs.ScriptText.{TakesNoMemory, SaysMemory, text}
 
 -- memory was refused to none of them
 abbrev pub HadMemory : List PlayedLine → Type 0

@@ -9,5 +9,5 @@ pub mod Calling
 pub mod Reply
 pub mod PlayedLine
 pub mod Did
-pub mod Summary
-pub mod Runner
+pub mod ScriptText
+pub mod Fault

@@ -4,7 +4,7 @@ use crate::driver_answer::DriverAnswer;
 
 /// What the turns of a plan came to: so many were performed and so many refused, and whether memory
 /// was refused to one.
-#[derive(Clone, Copy, Debug)]
+#[derive(Clone, Copy)]
 pub struct PlanCounts {
     pub performed: u32,
     pub refused: u32,

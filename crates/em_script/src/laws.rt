@@ -7,7 +7,7 @@ ghost use Rattle.em_driver.specs.HappenedCall.{Happens};
 ghost use Rattle.em_script.specs.Session.{Session};
 ghost use Rattle.em_line.specs.Request.{Request};
 ghost use Rattle.em_script.specs.DriverAnswer.{DriverAnswer, says_memory, call_text};
-ghost use Rattle.em_script.specs.Runner.{SaysMemory};
+ghost use Rattle.em_script.specs.ScriptText.{SaysMemory};
 ghost use Rattle.em_script.specs.Calling.{course_of, CanBeDone};
 ghost use Rattle.em_line.specs.ParsedLine.{ParsedLine};
 ghost use Rattle.em_script.specs.RefusedAt.{RefusedAt};

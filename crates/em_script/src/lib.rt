@@ -1,5 +1,5 @@
-//! Scripts: lines of text, each of which does what it says (em_line) with a machine, and the text
-//! that they print. [docs/language.md](../../../docs/language.md) has every line.
+//! Lines of scripts: lines of text, each of which does what it says (em_line) with a machine, and the text
+//! that they print; em_run plays whole scripts. [docs/language.md](../../../docs/language.md) has every line.
 //!
 //! A line ends at a newline; lines are numbered from 1. A line that says nothing prints nothing.
 //! What is refused prints `refused` and the name of the refusal. Any line that the language does not
@@ -11,6 +11,7 @@ mod calling;
 mod driver_answer;
 mod driver_output;
 mod driver_reply;
+mod fault;
 mod laws;
 mod no_driver;
 mod outcome;
@@ -18,16 +19,13 @@ mod play;
 mod player;
 mod printed;
 mod reply;
-mod runner;
 mod seat;
 mod session;
-mod summary;
 
+pub use fault::BenchFault;
 pub use laws::{a_line_did_so, a_request_is_played_or_says_so};
 pub use no_driver::NoDriver;
 pub use outcome::{Outcome, Refused};
 pub use player::Player;
 pub use reply::show_look;
-pub use runner::{BenchFault, run};
 pub use session::Session;
-pub use summary::Summary;

@@ -4,8 +4,8 @@ ghost use Rattle.em_line.specs.Grammar.{parsed_line};
 ghost use Rattle.em_line.specs.ParsedLine.{brings_octets};
 ghost use Rattle.em_script.specs.Reply.{Performs};
 
+use crate::fault::BenchFault;
 use crate::outcome::Outcome;
-use crate::runner::BenchFault;
 use crate::session::Session;
 use em_journal::Acts;
 use em_line::MOST_PEEK;

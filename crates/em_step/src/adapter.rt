@@ -608,7 +608,8 @@ impl Adapter {
         );
     }
 
-    /// Takes a reset back: what it put aside changes places with what the adapter holds, which is let go.
+    /// Takes a reset back. The registers change places with those that it put aside, which are let go; the latches are
+    /// copied.
     #[inline(never)]
     fn take_back_reset(&mut self, mut old: Box<BeforeReset>)
         requires { EffectFits self.old (Reset (aside old.value)) }
@@ -616,7 +617,7 @@ impl Adapter {
     {
         let before = &mut *old;
         std::mem::swap(&mut self.registers, &mut before.registers);
-        std::mem::swap(&mut self.latches, &mut before.latches);
+        self.latches = before.latches.copy();
         let gathered = std::mem::replace(&mut before.gathered, TxUndo::Nothing);
         take_back(&mut self.gather, &mut self.wire, &mut self.memory, gathered);
         self.fifo.put_places_back(before.places);

@@ -14,8 +14,8 @@ use Rattle.em_script.specs.declared.outcome.Outcome.TheVariants.{Done}
 use Rattle.em_script.specs.Reply.{IsAllowed, after_line, back_call, call_reply, line_outcome}
 use Rattle.em_script.specs.RefusedAt.{RefusedAt}
 use Rattle.em_script.specs.Session.{Session}
-use Rattle.em_script.specs.declared.runner.BenchFault.{BenchFault}
-use Rattle.em_script.specs.declared.runner.BenchFault.TheVariants.{Write}
+use Rattle.em_script.specs.declared.fault.BenchFault.{BenchFault}
+use Rattle.em_script.specs.declared.fault.BenchFault.TheVariants.{Write}
 use Rattle.em_named.specs.declared.did.Did.{Did}
 use Rattle.em_named.specs.declared.did.Did.TheVariants.{TookBack}
 use Rattle.em_script.specs.Did.{did_of}

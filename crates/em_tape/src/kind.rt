@@ -13,7 +13,7 @@ use em_line::{Command, LineForm, RequestName, form_of};
 use em_script::Outcome;
 
 /// What a line does with events, if it says anything.
-#[derive(Clone, Copy, PartialEq, Eq, Debug)]
+#[derive(Clone, Copy)]
 pub(crate) enum Kind {
     /// It performs one.
     Event,

@@ -14,7 +14,7 @@ use crate::kind::Kind;
 use em_script::Outcome;
 
 /// What is known of a line that was performed.
-#[derive(Clone, Copy, PartialEq, Eq, Debug)]
+#[derive(Clone, Copy)]
 pub(crate) enum Known {
     /// Nothing.
     Nothing,

@@ -9,7 +9,7 @@ use em_pcap::Packet;
 use std::alloc::{AllocError, Global};
 
 /// Why a frame arrives where it does.
-#[derive(Clone, Copy, PartialEq, Eq, Debug)]
+#[derive(Clone, Copy)]
 pub enum Why {
     /// Its time says so.
     Time(Moment),
@@ -24,7 +24,7 @@ pub enum Why {
 }
 
 /// A frame that arrives.
-#[derive(Clone, Copy, Debug)]
+#[derive(Clone, Copy)]
 pub struct Arrival<'a> {
     pub packet: Packet<'a>,
     /// Which of the capture's frames it is, from 1 on.
@@ -39,7 +39,7 @@ pub struct Arrival<'a> {
 }
 
 /// A clock: a frame that was sent, when it was captured, and when the log says that it was sent.
-#[derive(Clone, Copy, Debug)]
+#[derive(Clone, Copy)]
 struct Anchor {
     number: u64,
     captured: u64,
@@ -54,7 +54,7 @@ pub struct Arrivals<'a> {
 }
 
 /// What was seen of the frames that the adapter sent.
-#[derive(Clone, Copy, PartialEq, Eq, Debug)]
+#[derive(Clone, Copy)]
 pub struct Seen {
     /// How many are the adapter's own, which it sent.
     pub own: u64,

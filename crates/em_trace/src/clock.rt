@@ -14,7 +14,7 @@ const SECOND: u64 = 1_000_000;
 const FRACTION: usize = 6;
 
 /// When a line was logged, in nanoseconds of the log's own clock.
-#[derive(Clone, Copy, PartialEq, Eq, PartialOrd, Ord, Debug)]
+#[derive(Clone, Copy)]
 pub struct Moment(pub u64);
 
 impl Moment {

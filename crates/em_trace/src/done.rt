@@ -99,7 +99,7 @@ impl Done {
 
     /// Counts a frame that arrives.
     pub fn count(&mut self, arrival: &Arrival<'_>) {
-        if arrival.why == Why::Nothing {
+        if matches!(arrival.why, Why::Nothing) {
             self.late_frames = self.late_frames.saturating_add(1);
         }
         if !arrival.received {

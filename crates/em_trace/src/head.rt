@@ -6,7 +6,7 @@ use em_regs::Profile;
 use std::io::Write;
 
 /// What a script says that its machine is made of.
-#[derive(Clone, Copy, PartialEq, Eq, Debug)]
+#[derive(Clone, Copy)]
 pub struct Head {
     /// The guest's memory, where it is not the usual one.
     pub room: Option<Room>,

@@ -5,7 +5,7 @@ use em_log::{RegisterAccess, Way};
 use em_regs::{Kind, Reg};
 
 /// A read, and how many more like it followed.
-#[derive(Clone, Copy, PartialEq, Eq, Debug)]
+#[derive(Clone, Copy)]
 pub struct Poll {
     read: RegisterAccess,
     /// How many more reads gave the same.

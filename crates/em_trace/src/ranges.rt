@@ -1,7 +1,7 @@
 //! Which lines of a log are translated.
 
 /// Lines of a log, from 1 on.
-#[derive(Clone, Copy, PartialEq, Eq, Debug)]
+#[derive(Clone, Copy)]
 pub struct Lines {
     /// The first that is translated.
     pub from: u64,

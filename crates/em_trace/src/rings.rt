@@ -23,7 +23,7 @@ const MIB: u64 = 0x10_0000;
 const WORDS: u64 = 0x1_0000_0000;
 
 /// Where a ring lies, by its registers.
-#[derive(Clone, Copy, Debug)]
+#[derive(Clone, Copy)]
 struct Lies {
     low: u32,
     high: u32,
@@ -43,7 +43,7 @@ impl Lies {
 }
 
 /// Where the rings lie that a log gives to the adapter, and what it writes into memory.
-#[derive(Clone, Copy, Debug)]
+#[derive(Clone, Copy)]
 pub struct Rings {
     rx: Lies,
     tx: Lies,
@@ -52,7 +52,7 @@ pub struct Rings {
 }
 
 /// Memory that begins at an address, and has so many octets.
-#[derive(Clone, Copy, PartialEq, Eq, Debug)]
+#[derive(Clone, Copy)]
 pub struct Room {
     pub base: u64,
     pub size: u64,

@@ -22,7 +22,7 @@ const INDEX: u32 = 0xFFFF;
 pub type Address = [u8; 6];
 
 /// What the accesses of a log so far show of the adapter.
-#[derive(Clone, Copy, PartialEq, Eq, Debug)]
+#[derive(Clone, Copy)]
 pub struct Shown {
     /// RCTL.EN was written last, and no reset behind it.
     pub receives: bool,

@@ -12,7 +12,7 @@ use std::alloc::{AllocError, Global};
 const RXT0: u32 = 0x0000_0080;
 
 /// What an access says of frames that arrived before it.
-#[derive(Clone, Copy, PartialEq, Eq, Debug)]
+#[derive(Clone, Copy)]
 pub enum Tells {
     /// A read of ICR with RXT0: a frame arrived since the read of ICR before.
     Arrived,
@@ -23,7 +23,7 @@ pub enum Tells {
 }
 
 /// A place of a log: right before an access.
-#[derive(Clone, Copy, PartialEq, Eq, Debug)]
+#[derive(Clone, Copy)]
 pub struct Place {
     /// The access's line.
     pub line: u64,
@@ -40,7 +40,7 @@ pub struct Place {
 }
 
 /// A write of TDT that lets the adapter send.
-#[derive(Clone, Copy, PartialEq, Eq, Debug)]
+#[derive(Clone, Copy)]
 pub struct Sending {
     pub moment: Option<Moment>,
     /// How many descriptors it gives the adapter.

@@ -24,14 +24,14 @@ use std::io::{BufRead, Write};
 const LINK_UP: &[u8] = b"link up\nw 000C0 00000004\n";
 
 /// Whether the link is up where the log begins.
-#[derive(Clone, Copy, PartialEq, Eq, Debug)]
+#[derive(Clone, Copy)]
 pub enum Link {
     Up,
     Down,
 }
 
 /// What the command line asks for.
-#[derive(Clone, Copy, Debug)]
+#[derive(Clone, Copy)]
 pub struct Wanted<'a> {
     /// What the log looks like; without it the log says so.
     pub form: Option<Form>,
@@ -64,7 +64,7 @@ impl<'a> Wanted<'a> {
 }
 
 /// A line of a log that is an access.
-#[derive(Clone, Copy, Debug)]
+#[derive(Clone, Copy)]
 struct Logged {
     number: u64,
     moment: Option<Moment>,
@@ -354,7 +354,7 @@ impl<'a> Script<'a> {
 
     /// How the script begins, if it has not begun.
     fn begin(&mut self) -> Result<()> {
-        if self.begins.take() == Some(Link::Up) {
+        if matches!(self.begins.take(), Some(Link::Up)) {
             write_text(&mut self.lines, LINK_UP)?;
         }
         Ok(())
@@ -372,7 +372,7 @@ impl<'a> Script<'a> {
 
 /// What a line is, of which no more than [`MOST_KEPT`] octets were kept: one that was cut has not all that was written.
 fn whole(entry: Entry, text: &[u8]) -> Entry {
-    if entry == Entry::Memory && text.len() >= MOST_KEPT {
+    if matches!(entry, Entry::Memory) && text.len() >= MOST_KEPT {
         Entry::Fault
     } else {
         entry

@@ -42,7 +42,7 @@ const PROFILES: &[&str] = &["table", "adapter"];
 const LINKS: &[&str] = &["up", "down"];
 
 /// Why words that the parser took are refused.
-#[derive(Clone, Copy, PartialEq, Eq, Debug)]
+#[derive(Clone, Copy)]
 pub enum WordsRefused {
     /// What stands behind `--base` is no address.
     Base,

@@ -1,6 +1,6 @@
 //! The transmit descriptor (manual, chapter on transmit description, legacy format).
 ghost use Rattle.std.specs.Prelude.{◌≡◌, slice_index};
-ghost use Rattle.em_tx.specs.Control.{as_read, without_octets};
+ghost use Rattle.em_tx.specs.Control.{as_read};
 ghost use Rattle.em_regs.specs.declared.profile.Profile.TheVariants.{Adapter};
 ghost use Rattle.em_tx.specs.Descriptor.{address, dext, eop, length_of, rs, special, vle};
 
@@ -70,33 +70,24 @@ impl TxDescriptor {
     pub fn as_read(self, profile: Profile) -> TxDescriptor
         ensures { result ≡ as_read profile self }
     {
+        let mut read = self;
         match profile {
-            Profile::Table => self,
-            Profile::Adapter => self.as_the_second_reads(),
+            Profile::Table => {}
+            Profile::Adapter => read.take_octets_away(),
         }
+        read
     }
 
-    /// The same in the second profile. It stands by itself, so that the first one's way stays short.
+    /// Makes it what the second profile reads. It stands by itself, so that the first one's way stays short.
     #[inline(never)]
     #[tactic(auto, unfolding(crate::specs::Control::as_read))]
-    fn as_the_second_reads(self) -> TxDescriptor
-        ensures { result ≡ as_read Adapter self }
+    fn take_octets_away(&mut self)
+        ensures { self.new ≡ as_read Adapter self.old }
     {
         if self.address() == 0 {
-            self.without_octets()
-        } else {
-            self
+            self.octets[LENGTH] = 0;
+            self.octets[LENGTH + 1] = 0;
         }
-    }
-
-    /// The descriptor with a length of 0.
-    fn without_octets(self) -> TxDescriptor
-        ensures { result ≡ without_octets self }
-    {
-        let mut octets = self.octets;
-        octets[LENGTH] = 0;
-        octets[LENGTH + 1] = 0;
-        TxDescriptor { octets }
     }
 
     /// The address of the buffer.

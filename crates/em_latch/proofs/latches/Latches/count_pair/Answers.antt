@@ -21,4 +21,4 @@ returns-clause-state c =
           );
       carry_is = omega (arith, c.word.ensures, c.from-low_word.ensures);
     })
-    c.grow.ensures.state c.grow-2.ensures.state
+    c.grow.ensures.state c.grow_if.ensures.state

@@ -13,7 +13,7 @@ returns-clause-state c =
     let m = c.args.self.now in
     let set = c.word-set.result in
     let new = c.args.causes in
-    c.grow.ensures.state
+    c.grow_if.ensures.state
     ∙ ap (λ v. map.insert m (offset_of Icr) (grown v (new - bit_and set new))) (sym c.word-set.ensures)
     ∙ ap (map.insert m (offset_of Icr)) (grown_causes set new (or_of_32 set new (omega arith) (omega arith)))
     ∙ ap (λ v. map.insert m (offset_of Icr) (bit_or v new)) c.word-set.ensures

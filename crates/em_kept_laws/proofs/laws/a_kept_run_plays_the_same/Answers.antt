@@ -1,5 +1,0 @@
-use Rattle.em_kept_laws.proofs.FileLaws.{file_plays}
-use Rattle.em_kept_laws.proofs.laws.a_kept_run_plays_the_same.Goals as goal
-
-pub returns : goal.returns
-returns c = file_plays

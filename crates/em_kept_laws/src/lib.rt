@@ -1,4 +1,0 @@
-//! Laws of kept runs: played again, they lead to the same machine by the same answers.
-#![tactic(auto)]
-
-pub mod laws;

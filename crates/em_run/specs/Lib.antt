@@ -1,0 +1,3 @@
+pub mod KeptRun
+pub mod Runner
+pub mod Summary
