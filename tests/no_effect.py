@@ -68,13 +68,13 @@ TURNED += [
     ("without SECRC four octets more", STORES, "stored, tag = frame + bytes(0 if rctl >> 26 & 1 else 4), None", SECRC),
 ]
 TURNED += with_effects("bits 11:10", "s.at(RCTL) >> 10 & 3", EFFECTS[1:2], "bits-11-and-10-of-rctl")
-SENDS = 's.wire, s.gathered = (*s.wire, frame), b""\n'
+SENDS = "s.wire = (*s.wire, frame)\n"
 for lbm in (1, 2, 3):
     is_looped = f"s.at(RCTL) >> 6 & 3 == {lbm}"
     TURNED += [
         (f"LBM {lbm:02b} sends nothing to the wire", SENDS, SENDS.replace("(*", f"s.wire if {is_looped} else (*"), LBM),
         (f"LBM {lbm:02b} brings the frame back", SENDS,
-         f"s.fifo += ((frame, None),) if {is_looped} else ()\n        {SENDS}", LBM),
+         f"s.fifo += ((frame, None),) if {is_looped} else ()\n    {SENDS}", LBM),
     ]
 
 # What fields of other registers would do that the manual names.

@@ -1,8 +1,10 @@
 """Makes scripts at random: lines about rings and their engines, and lines about a driver.
 
-Rings are set up and broken, with lengths, addresses and values beside the edges of the rules.
+Rings are set up and broken, with lengths, addresses and values beside the edges of the rules. Those of the second
+profile have contexts and data in their transmit rings, too.
 """
 import random
+from typing import Callable
 
 import second_reading
 
@@ -15,6 +17,10 @@ FAR = [0xFFFFFFFF, 0x100000000, 0xFFFFFFFFFFFFFFC4, 0xFFFFFFFFFFFFFFFF]
 COMMANDS = [0, 1, 1, 8, 9, 9, 9, 9, 0x0B, 0x41, 0x49, 0x49, 0x40, 0xD7, 0x09, 0x01, 0x49, 0x21]
 COUNTS = [0, 1, 5, 6, 11, 12, 13, 20, 55, 56, 59, 60, 61, 123, 124, 251, 252, 300, 507, 508, 1019, 1020, 1500, 8190]
 COUNTS += [16379, 16380, 16381]
+# where a context's sums begin, lie and end; its headers, and its MSS
+STARTS, SUMS = [0, 13, 14, 14, 34, 34, 54, 200], [10, 24, 24, 40, 50, 50, 70, 255]
+ENDS = [0, 0, 0, 33, 33, 53, 59, 257, 0xFFFF]
+HEADERS, SEGMENTS = [0, 14, 42, 54, 54, 54, 74, 255], [0, 7, 100, 101, 536, 1460, 1460, 9000, 16326, 16327, 0xFFFF]
 COUNTERS = sorted(second_reading.COUNTERS | second_reading.PAIRS)
 
 
@@ -44,6 +50,45 @@ def descriptor(r: random.Random, ring: int) -> str:
     length = r.choice(COUNTS).to_bytes(2, "little").hex()
     status, special = r.choice(["00", "FE"]), r.choice(["0000", "6420"])
     return f"poke {at:X} {address}{length}00{r.choice(COMMANDS):02X}{status}00{special}"
+
+
+def dtyp(r: random.Random, kind: int) -> int:
+    """The high half of octet 10, for the most part that of a kind."""
+    return 16 * (kind if r.random() < 0.98 else r.randrange(16))
+
+
+def context(r: random.Random, cuts: bool) -> bytes:
+    """A context, mostly of frames that become segments if it is to be so, and of others if not."""
+    sums = [bytes([r.choice(STARTS), r.choice(SUMS)]) + r.choice(ENDS).to_bytes(2, "little") for _ in range(2)]
+    command = 0x20 | (4 if cuts == (r.random() < 0.9) else 0) | r.randrange(4) | r.choice([0, 0, 8, 0x80])
+    rest = [dtyp(r, 0) + r.randrange(16), command, r.choice([0, 0xFE]), r.choice(HEADERS)]
+    return b"".join([*sums, r.randbytes(2), bytes(rest), r.choice(SEGMENTS).to_bytes(2, "little")])
+
+
+def data(r: random.Random, cuts: bool, is_last: bool) -> bytes:
+    """Data of a frame that becomes segments or does not, and mostly with EOP if it is the last."""
+    address = place(r) if r.random() < 0.95 else 0
+    length = r.choice(COUNTS) + r.choice([0] * 40 + [0x10000, 0x80000])
+    command = 0x20 | 4 * cuts | (is_last == (r.random() < 0.95)) | r.choice([0, 0, 8, 0x40, 0x40, 0x92])
+    rest = [dtyp(r, 1) + (length >> 16), command, r.choice([0, 0xFE]), r.choice([0, 1, 2, 3, 3, 3, 0xFC])]
+    length_low, special = (length & 0xFFFF).to_bytes(2, "little"), r.choice([b"\0\0", b"\x64\x20"])
+    return b"".join([address.to_bytes(8, "little"), length_low, bytes(rest), special])
+
+
+def extended(r: random.Random, segments: bool = True) -> list[str]:
+    """A frame of the extended format in the transmit ring, mostly behind a context, and steps over it. It may become
+    segments if these are allowed."""
+    cuts, count, head = segments and r.random() < 0.6, r.choice([1, 1, 2, 3]), r.randrange(8)
+    made = [context(r, cuts)] if r.random() < 0.6 else []
+    made += [data(r, cuts if r.random() < 0.97 else segments and not cuts, i == count - 1) for i in range(count)]
+    octets = f"poke {r.choice(PLACES[6:]):X} {r.randbytes(r.choice([16, 60, 61, 200])).hex()}"
+    ring = [f"poke {0x200 + 16 * ((head + i) % 8):X} {descriptor.hex()}" for i, descriptor in enumerate(made)]
+    steps = ["tx"] * r.choice([len(made), len(made), r.randint(0, 4)])
+    return [octets, f"w 03810 {head:X}", *ring, f"w 03818 {(head + len(made)) % 8:X}", *steps]
+
+
+def of_whole_frames(r: random.Random) -> list[str]:
+    return extended(r, segments=False)
 
 
 def filters(r: random.Random) -> str:
@@ -83,8 +128,8 @@ def steps_back(r: random.Random) -> str:
     return "back" if r.random() < 0.6 else f"back {r.choice([1, 2, 3, 8, 20, 60])}"
 
 
-def over_rings(r: random.Random) -> list[str]:
-    """Sets rings up and breaks them."""
+def over_rings(r: random.Random, besides: Callable[[random.Random], list[str]] | None = None) -> list[str]:
+    """Sets rings up and breaks them. What lines there are besides comes between them: those of the second profile."""
     lines = ["link up", f"w 00100 {rctl(r):08X}", "w 00400 0000000A", "w 00038 00008100"]
     for ring, base in ((0x2800, 0x100), (0x3800, 0x200)):
         lines += [f"w {ring:05X} {base:X}", f"w {ring + 8:05X} 80", f"w {ring + 0x18:05X} {r.randrange(8):X}"]
@@ -92,7 +137,9 @@ def over_rings(r: random.Random) -> list[str]:
     makers, weights = [arrival, filters, rings, look, steps_back, upset], [30, 6, 22, 16, 7, 1]
     for _ in range(r.choice([60, 200, 600])):
         kind = r.random()
-        if kind < 0.26:
+        if besides and r.random() < 0.2:
+            lines += besides(r)
+        elif kind < 0.26:
             lines += [r.choice(["rx", "tx"])] * r.choice([1, 1, 2, 3])
         elif kind < 0.36:
             lines.append(descriptor(r, r.choice([0x100, 0x200])))

@@ -8,6 +8,7 @@ import copy
 import re
 from zlib import crc32
 
+from second_offload import Extended, Offload
 from second_parts import Phy, Pins
 
 PAGE = 4096
@@ -104,6 +105,7 @@ class State:
         starts = STARTS | {0x1000: self.at(0x1000)} if self.is_second else {}
         self.kept = starts | {0x5400: a | b << 16, 0x5404: c | 1 << 31}
         self.fifo, self.taken, self.gathered = (), 0, b""
+        self.offload = Offload()
 
     def at(self, offset: int) -> int:
         return self.kept.get(offset, 0)
@@ -372,6 +374,8 @@ def handled(s: State, kind: str) -> dict:
         if s.is_second and buffer == 0:
             return {"at": at, "buffer": at, "octets": 0}
         count = min(len(s.fifo[0][0]) - s.taken, buffer_size(s))
+    elif s.is_second and descriptor[11] & 0x20:
+        count = Extended(descriptor).length()
     elif s.is_second and buffer == 0:
         count = 0
     return {"at": at, "buffer": buffer if count else 0, "octets": count}
@@ -415,6 +419,80 @@ def is_halted(s: State) -> bool:
     return s.is_second and not s.link and not s.at(RCTL) & 0xC0
 
 
+def report(s: State, at: int, command: int) -> None:
+    """With RS a descriptor's status has DD, and nothing else."""
+    if command & 8:
+        s.store(at + 12, b"\x01")
+        s.raises(TXDW)
+
+
+def put_on_wire(s: State, frame: bytes, descriptor: bytes) -> int:
+    """Sends a frame, by the last of its descriptors: with its tag and its padding. It is how many octets it has so."""
+    if s.at(CTRL) >> 30 & 1 and descriptor[11] & 0x40 and len(frame) >= 12:
+        frame = frame[:12] + s.at(VET).to_bytes(2, "big") + descriptor[14:16][::-1] + frame[12:]
+    if s.at(TCTL) & 8:
+        frame = frame.ljust(60, b"\0")
+    s.wire = (*s.wire, frame)
+    if len(frame) + 4 >= 64:
+        s.count(GPTC)
+        s.count(GOTC, len(frame) + 4)
+        s.count(size_class(0x40D8, len(frame) + 4))
+    if len(frame) >= 6 and frame[0] & 1:
+        s.count(BPTC if frame[:6] == b"\xFF" * 6 else MPTC)
+    count_total(s, TPT, TOT, len(frame) + 4)
+    return len(frame)
+
+
+def handle(s: State, head: int, at: int, descriptor: bytes) -> tuple[str, int]:
+    """What a step over a descriptor answers, and its cost."""
+    of, length = int.from_bytes(descriptor[:8], "little"), int.from_bytes(descriptor[8:10], "little")
+    if s.is_second and of == 0:
+        length = 0
+    command = descriptor[11]
+    if command & 0x20:
+        raise Refused("Extended")
+    if s.is_second and length > 16288:
+        raise Refused("TooLong")
+    if len(s.gathered) + length > 16380:
+        raise Refused("TooLong")
+    if length > 0 and of + length > s.size():
+        raise Refused("DmaRange")
+    if length > 0:
+        s.gathered += s.octets(of, length)
+    cost = 32 + length + (command >> 3 & 1)
+    report(s, at, command)
+    if not command & 1 or not s.gathered:
+        return f"fetched {head}", cost
+    count = put_on_wire(s, s.gathered, descriptor)
+    s.gathered = b""
+    return f"sent {head} {count}", cost + count
+
+
+def handle_extended(s: State, head: int, at: int, descriptor: Extended) -> tuple[str, int]:
+    """The same of a descriptor of the extended format, which the second profile has."""
+    before = s.gathered
+    if descriptor.is_context():
+        s.offload = s.offload.loads(descriptor)
+        report(s, at, descriptor.octets[11])
+        return f"fetched {head}", 288
+    if not descriptor.is_data():
+        raise Refused("Extended")
+    if s.offload.is_too_long(descriptor, len(before)):
+        raise Refused("TooLong")
+    of, length = descriptor.buffer(), descriptor.length()
+    if length and of + length > s.size():
+        raise Refused("DmaRange")
+    if not before:
+        s.offload = s.offload.begins(descriptor)
+    s.gathered = before + (s.octets(of, length) if length else b"")
+    report(s, at, descriptor.octets[11])
+    if not descriptor.is_last() or not s.gathered:
+        return f"fetched {head}", 288
+    frames, s.gathered = s.offload.frames(descriptor, s.gathered), b""
+    count = sum(put_on_wire(s, frame, descriptor.octets) for frame in frames)
+    return f"sent {head} {count}", 288 + len(before)
+
+
 def transmit(s: State) -> tuple[str, int]:
     """The answer, and its cost."""
     there = work_of(s, TRANSMIT, TCTL)
@@ -426,41 +504,10 @@ def transmit(s: State) -> tuple[str, int]:
     if at + 16 > s.size():
         raise Refused("DmaRange")
     descriptor = s.octets(at, 16)
-    of, length = int.from_bytes(descriptor[:8], "little"), int.from_bytes(descriptor[8:10], "little")
-    if s.is_second and of == 0:
-        length = 0
-    command, special = descriptor[11], descriptor[14:16][::-1]
-    if command & 0x20:
-        raise Refused("Extended")
-    if s.is_second and length > 16288:
-        raise Refused("TooLong")
-    if len(s.gathered) + length > 16380:
-        raise Refused("TooLong")
-    if length > 0 and of + length > s.size():
-        raise Refused("DmaRange")
-    if length > 0:
-        s.gathered += s.octets(of, length)
-    cost = 32 + length
-    if command & 8:
-        s.store(at + 12, b"\x01")
-        s.raises(TXDW)
-        cost += 1
-    answer = f"fetched {head}"
-    if command & 1 and s.gathered:
-        frame = s.gathered
-        if s.at(CTRL) >> 30 & 1 and command & 0x40 and len(frame) >= 12:
-            frame = frame[:12] + s.at(VET).to_bytes(2, "big") + special + frame[12:]
-        if s.at(TCTL) & 8:
-            frame = frame.ljust(60, b"\0")
-        s.wire, s.gathered = (*s.wire, frame), b""
-        if len(frame) + 4 >= 64:
-            s.count(GPTC)
-            s.count(GOTC, len(frame) + 4)
-            s.count(size_class(0x40D8, len(frame) + 4))
-        if len(frame) >= 6 and frame[0] & 1:
-            s.count(BPTC if frame[:6] == b"\xFF" * 6 else MPTC)
-        count_total(s, TPT, TOT, len(frame) + 4)
-        answer, cost = f"sent {head} {len(frame)}", cost + len(frame)
+    if s.is_second and descriptor[11] & 0x20:
+        answer, cost = handle_extended(s, head, at, Extended(descriptor))
+    else:
+        answer, cost = handle(s, head, at, descriptor)
     s.put(TRANSMIT + 0x10, (head + 1) % n)
     if s.at(TRANSMIT + 0x10) == tail:
         s.raises(TXQE)

@@ -32,8 +32,8 @@ w TDT 7 = ok
 tx = refused DmaRange
 poke 1060 00000000000000800400000100000000 = ok
 tx = refused DmaRange
-# an extended descriptor is refused before
-poke 1060 00000000000000000400002000000000 = ok
+# one of an extended format that there is not is refused all the same
+poke 1060 00000000000000000400202000000000 = ok
 tx = refused Extended
 # the octets at address 0 are sent by no address but that
 poke 1060 01000000000000000300000100000000 = ok

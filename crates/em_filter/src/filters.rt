@@ -28,6 +28,7 @@ const MOST_LONG: u32 = 16_384;
 /// What the filters say of a frame: the address first, then the size, then the VLAN filter (this
 /// project's profile). A frame is the octets from its destination to the last one before the frame
 /// check sequence, 14 to 20,000.
+#[inline(always)]
 #[tactic(auto, unfolding(crate::specs::Filters::verdict))]
 pub fn verdict(profile: Profile, regs: &RegFile, frame: &[u8]) -> Verdict
     requires least { 14 ≤ length frame.now }

@@ -80,6 +80,7 @@ at_effect (effect.Octets high len low place) x y same at = at ∙ same
 at_effect (effect.Arrival old place) x y same at = at ∙ same
 at_effect (effect.RxStep high word low end rest) x y same at = at ∙ same
 at_effect (effect.TxStep old head) x y same at = tt
+at_effect (effect.Extended old) x y same at = tt
 at_effect (effect.Link old) x y same at = tt
 at_effect (effect.Pins old told) x y same at = tt
 at_effect (effect.Phy old) x y same at = tt
@@ -372,6 +373,7 @@ at_place (effect.RxStep high word low end rest) n o less inside at =
     ap (changed (effect.RxStep high word low end rest))
     (sym (seen_given n o less inside) ∙ ap (λ (k : ℕ). seen_from k o) (sym at))
 at_place (effect.TxStep old head) n o less inside at = refl
+at_place (effect.Extended old) n o less inside at = refl
 at_place (effect.Link old) n o less inside at = refl
 at_place (effect.Pins old told) n o less inside at = refl
 at_place (effect.Phy old) n o less inside at = refl
@@ -388,6 +390,7 @@ placed (effect.Arrival old place) n o less inside at =
 placed (effect.RxStep high word low end rest) n o less inside at =
     omega (arith, at, forward-inside (length o.octets) n o.top inside (omega (arith, less)))
 placed (effect.TxStep old head) n o less inside at = tt
+placed (effect.Extended old) n o less inside at = tt
 placed (effect.Link old) n o less inside at = tt
 placed (effect.Pins old told) n o less inside at = tt
 placed (effect.Phy old) n o less inside at = tt

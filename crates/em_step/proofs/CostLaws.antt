@@ -4,7 +4,7 @@ use Rattle.std.proofs.Common.{true}
 use Rattle.std.proofs.Common.{false}
 use Rattle.std.proofs.lemmas.Bool.{ltb-false}
 use Rattle.std.proofs.lemmas.Bool.Decides.{nat_tests}
-use Rattle.std.specs.Prelude.{if◌then◌else◌, nat_lt, ◌||◌, slice_index, ◌/◌, ◌%◌, ◌^◌}
+use Rattle.std.specs.Prelude.{if◌then◌else◌, min, nat_lt, ◌||◌, slice_index, ◌/◌, ◌%◌, ◌^◌}
 use Rattle.em_regs.specs.declared.reg.Reg.TheVariants.{Rctl}
 use Rattle.em_regs.specs.Setup.{has, value_of}
 use Rattle.em_regs.specs.Table.{reg_at}
@@ -12,10 +12,12 @@ use Rattle.em_rx.proofs.HeldLaws.{most_written}
 use Rattle.em_rx.specs.Receive.{octets_written}
 use Rattle.em_tx.specs.Cells.{Shown}
 use Rattle.em_tx.specs.Engine as tx
+use Rattle.em_tx.specs.Extended.{data_cost, extended_cost, is_context, raw, sends_data}
 use Rattle.em_tx.specs.declared.answer.TxAnswer.{TxAnswer}
 use Rattle.em_tx.specs.declared.refusal.TxRefusal.{TxRefusal}
 use Rattle.em_tx.proofs.CostLaws as tx_laws
-use Rattle.em_step.specs.Engines.{rx_control, sending, transmitted, tx_control, tx_stepped}
+use Rattle.em_step.specs.Engines.{extended_step, has_extended, rx_control, sending, sending_both, transmitted, tx_control}
+use Rattle.em_step.specs.Engines.{tx_stepped}
 use Rattle.em_filter.specs.Vlan.{tagged}
 use Rattle.em_step.specs.State.{State}
 use Rattle.em_step.specs.Arrival.{arrival, keeps_sequence, octets_stored}
@@ -36,8 +38,8 @@ use Rattle.std.proofs.lemmas.List.{length-take-le}
 use Rattle.em_step.specs.Undo.{changed, held, held_by, undo_of}
 use Rattle.em_step.specs.declared.event.Answer.{Answer}
 use Rattle.em_step.specs.declared.event.Answer.TheVariants.{Stored}
-use Rattle.em_step.specs.Undo.{piece, Changed, Undo, Nothing, Register, Octets, Arrival, RxStep, TxStep, Link, Pins, Phy}
-use Rattle.em_step.specs.Undo.{Reset}
+use Rattle.em_step.specs.Undo.{piece, Changed, Undo, Nothing, Register, Octets, Arrival, RxStep, TxStep, Extended, Link, Pins}
+use Rattle.em_step.specs.Undo.{Phy, Reset}
 
 effect_least : (p : Changed) → least_cost ≤ cost_of_effect p
 effect_least Nothing = omega arith
@@ -46,6 +48,7 @@ effect_least (Octets old) = omega arith
 effect_least (Arrival old) = omega arith
 effect_least (RxStep head old) = omega arith
 effect_least (TxStep old head) = omega arith
+effect_least (Extended old) = omega arith
 effect_least (Link old) = omega arith
 effect_least (Pins old told) = omega arith
 effect_least (Phy old) = omega arith
@@ -101,6 +104,29 @@ sent_by_engine : (s : State) (x : Result (TxAnswer × Shown) TxRefusal) (r : Ans
 sent_by_engine s (Ok t) r n most is = most t refl
 sent_by_engine s (Err refusal) r n most is = cc
 
+-- a step over a descriptor of the extended format
+data_most : (sends : Bool) (n : ℕ) → 256 + (if sends then min n 65248 else 0) ≤ 65_504
+data_most true n = omega arith
+data_most false n = omega arith
+
+extended_most : (context : Bool) (n : ℕ) → n ≤ 65_504 → (if context then 256 else n) ≤ 65_504
+extended_most true n most = omega arith
+extended_most false n most = most
+
+-- by whether it is one
+sending_most : (s : State) (r : Answer × State) (extended : Bool) → has_extended s ≡ extended
+    → (if extended then extended_step s else tx_stepped s (transmitted s)) ≡ Ok r
+    → least_cost + (if extended then extended_cost (tx_control s) (sending_both s) else tx.cost (tx_control s) (sending s))
+    ≤ most_cost
+sending_most s r true by is =
+    let d = raw (tx_control s) s.memory in
+    let b = sending_both s in
+    omega (arith, extended_most (is_context d) (data_cost d b) (data_most (sends_data d b) (length s.gathered)))
+sending_most s r false by is =
+    let q = tx_control s in
+    let most = sent_by_engine s (transmitted s) r (tx.cost q (sending s)) (tx_laws.cost_most q s.base (sending s)) is in
+    omega (arith, most)
+
 pub cost_most : (s : State) (e : Event) (r : Answer × State) → step s e ≡ Ok r → cost s e ≤ most_cost
 cost_most s (reads o) r is = omega arith
 cost_most s (writes o v) r is = if_most (resets (reg_at o) v)
@@ -112,10 +138,7 @@ cost_most s (arrives f) r is =
     omega (arith, most, stored_octets s f (arrival s f).0)
 cost_most s (links up) r is = omega arith
 cost_most s receives r is = omega (arith, piece_most s)
-cost_most s transmits r is =
-    let q = tx_control s in
-    let most = sent_by_engine s (transmitted s) r (tx.cost q (sending s)) (tx_laws.cost_most q s.base (sending s)) is in
-    omega (arith, most)
+cost_most s transmits r is = sending_most s r (has_extended s) refl is
 
 by_effect_least : (e : Effect) → least_cost ≤ cost_by_effect e
 by_effect_least effect.Nothing = omega arith
@@ -124,6 +147,7 @@ by_effect_least (effect.Octets high len low place) = omega arith
 by_effect_least (effect.Arrival old place) = omega arith
 by_effect_least (effect.RxStep high word low end rest) = omega arith
 by_effect_least (effect.TxStep old head) = omega arith
+by_effect_least (effect.Extended old) = omega arith
 by_effect_least (effect.Link old) = omega arith
 by_effect_least (effect.Pins old told) = omega arith
 by_effect_least (effect.Phy old) = omega arith
@@ -149,6 +173,7 @@ cost_as_effect (effect.RxStep high word low end rest) o room =
       length-part g.octets len 8 (omega (arith, size, room)),
     )
 cost_as_effect (effect.TxStep old head) o room = refl
+cost_as_effect (effect.Extended old) o room = refl
 cost_as_effect (effect.Link old) o room = refl
 cost_as_effect (effect.Pins old told) o room = refl
 cost_as_effect (effect.Phy old) o room = refl

@@ -4,6 +4,7 @@ use Rattle.em_mem.specs.Memory.{Patch}
 use Rattle.em_mem.proofs.MadePages as memory
 use Rattle.em_regs.specs.declared.reg.Reg.TheVariants.{Rdh, Tdh}
 use Rattle.em_regs.specs.RegFile as registers
+use Rattle.em_regs.specs.Storage.{Registers}
 use Rattle.em_latch.specs.Latches as latches
 use Rattle.em_pins.specs.Pins as pins
 use Rattle.em_phy.specs.Phy as phy
@@ -19,7 +20,7 @@ use Rattle.em_tx.proofs.MadePages as tx_laws
 use Rattle.em_step.specs.Cells.{Cells, shows, MorePages}
 use Rattle.em_step.specs.Undo.{Fits, EffectFits, tx_cells_of, undo, undo_octets, undo_effect, undo_piece}
 use Rattle.em_step.specs.Undo.{undo_register, undo_transmit, word}
-use Rattle.em_step.specs.Undo.{Changed, Undo, Nothing, Register, Octets, Arrival, RxStep, TxStep, Link, Pins, Phy}
+use Rattle.em_step.specs.Undo.{Changed, Undo, Nothing, Register, Octets, Arrival, RxStep, TxStep, Extended, Link, Pins, Phy}
 use Rattle.em_step.specs.Undo.{Reset}
 
 pub shows_after : (c d : Cells) → MorePages c d → shows d ≡ shows c
@@ -36,6 +37,7 @@ shows_after c d more = λ i. record {
   profile = more.profile i;
   pins = more.pins i;
   phy = more.phy i;
+  offload = more.offload i;
 }
 
 -- the FIFO with other cells
@@ -52,6 +54,7 @@ with_fifo c d f g more same = record {
   profile = more.profile;
   pins = more.pins;
   phy = more.phy;
+  offload = more.offload;
 }
 
 -- what a receive step replaced
@@ -74,6 +77,7 @@ piece_after c d p more = record {
   profile = more.profile;
   pins = more.pins;
   phy = more.phy;
+  offload = more.offload;
 }
 
 -- a register that is put back
@@ -91,6 +95,7 @@ register_after c d old more = record {
   profile = more.profile;
   pins = more.pins;
   phy = more.phy;
+  offload = more.offload;
 }
 
 register_fits_after : (c d : Cells) (old : registers.OldWord) → MorePages c d → registers.Fits c.registers old
@@ -116,6 +121,7 @@ transmit_after c d r more =
       profile = more.profile;
       pins = more.pins;
       phy = more.phy;
+      offload = more.offload;
     }
 
 effect_fits_after : (c d : Cells) (p : Changed) → MorePages c d → EffectFits c p → EffectFits d p
@@ -128,6 +134,10 @@ effect_fits_after c d (RxStep head old) more fits =
 effect_fits_after c d (TxStep old head) more fits = (
   register_fits_after c d (word Tdh head) more fits.0,
   tx_laws.fits_after (tx_cells_of c) (tx_cells_of d) (tx_record.Step old) (sending_cells c d more) fits.1,
+)
+effect_fits_after c d (Extended old) more fits = (
+  register_fits_after c d (word Tdh old.head) more fits.0,
+  tx_laws.extended_fits_after (tx_cells_of c) (tx_cells_of d) old.change (sending_cells c d more) fits.1,
 )
 effect_fits_after c d (Link old) more fits = tt
 effect_fits_after c d (Pins old told) more fits = fits ∙ ap (λ words. pins.eecd words old) (sym more.eeprom)
@@ -157,6 +167,7 @@ octets_after c d old more = record {
   profile = more.profile;
   pins = more.pins;
   phy = more.phy;
+  offload = more.offload;
 }
 
 effect_after : (c d : Cells) (p : Changed) → MorePages c d → MorePages (undo_effect c p) (undo_effect d p)
@@ -171,6 +182,22 @@ effect_after c d (RxStep head old) more =
 effect_after c d (TxStep old head) more =
     transmit_after (undo_register c (word Tdh head)) (undo_register d (word Tdh head)) (tx_record.Step old)
     (register_after c d (word Tdh head) more)
+effect_after c d (Extended old) more =
+    let sent = tx_laws.extended_undo_after (tx_cells_of c) (tx_cells_of d) old.change (sending_cells c d more) in
+    record {
+      registers = ap (λ (m : Registers). registers.undo m (word Tdh old.head)) more.registers;
+      latches = refl;
+      fifo = more.fifo;
+      memory = sent.memory;
+      gathered = sent.gathered;
+      wire = sent.wire;
+      eeprom = more.eeprom;
+      link = more.link;
+      profile = more.profile;
+      pins = more.pins;
+      phy = more.phy;
+      offload = refl;
+    }
 effect_after c d (Link old) more = record {
   registers = more.registers;
   latches = more.latches;
@@ -183,6 +210,7 @@ effect_after c d (Link old) more = record {
   profile = more.profile;
   pins = more.pins;
   phy = more.phy;
+  offload = more.offload;
 }
 effect_after c d (Pins old told) more = record {
   registers = more.registers;
@@ -196,6 +224,7 @@ effect_after c d (Pins old told) more = record {
   profile = more.profile;
   pins = refl;
   phy = more.phy;
+  offload = more.offload;
 }
 effect_after c d (Phy old) more = record {
   registers = more.registers;
@@ -209,6 +238,7 @@ effect_after c d (Phy old) more = record {
   profile = more.profile;
   pins = more.pins;
   phy = ap (λ p. phy.undone p old) more.phy;
+  offload = more.offload;
 }
 effect_after c d (Reset old) more =
     with_fifo _ _ _ _ (transmit_after _ _ old.gathered record {
@@ -223,6 +253,7 @@ effect_after c d (Reset old) more =
       profile = more.profile;
       pins = more.pins;
       phy = more.phy;
+      offload = refl;
     }) (ap (λ (f : rx.Cells). record f { places = old.places }) more.fifo)
 
 pub undo_after : (c d : Cells) (r : Undo) → MorePages c d → MorePages (undo c r) (undo d r)
@@ -238,4 +269,5 @@ undo_after c d r more = effect_after _ _ r.effect record {
   profile = more.profile;
   pins = more.pins;
   phy = more.phy;
+  offload = more.offload;
 }

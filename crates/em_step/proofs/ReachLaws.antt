@@ -17,24 +17,25 @@ use Rattle.em_step.specs.Before.{LeavesFrom, latch_before, latched_before, mdic_
 use Rattle.em_step.specs.Before.{status_before, stored_before}
 use Rattle.em_step.specs.Cells.{Cells, shows}
 use Rattle.em_step.specs.Undo.{Fits, undo, word}
-use Rattle.em_step.specs.Undo.{Changed, Undo, Nothing, Register, Octets, Arrival, RxStep, TxStep, Link, Pins, Phy}
-use Rattle.em_step.specs.Undo.{Reset}
+use Rattle.em_step.specs.Undo.{Changed, Undo, Nothing, Register, Octets, Arrival, RxStep, TxStep, Extended, Link, Pins}
+use Rattle.em_step.specs.Undo.{Phy, Reset}
 use Rattle.em_step.proofs.BeforeLaws.{register_undone}
 
--- the effect has no old value of what lies at an offset
-abbrev pub Misses : Changed → ℕ → Type 0
-Misses Nothing o = Unit {0}
-Misses (Register old) o = registers.old_at old o ≡ None
-Misses (Octets old) o = Unit {0}
-Misses (Arrival old) o = Unit {0}
-Misses (RxStep head old) o = registers.old_at (word Rdh head) o ≡ None
-Misses (TxStep old head) o = registers.old_at (word Tdh head) o ≡ None
-Misses effect o = ⊥
+-- the effect has no old value of what lies at an offset, which is a latch or not
+abbrev pub Misses : Changed → Bool → ℕ → Type 0
+Misses Nothing latch o = Unit {0}
+Misses (Register old) latch o = registers.old_at old o ≡ None
+Misses (Octets old) latch o = Unit {0}
+Misses (Arrival old) latch o = Unit {0}
+Misses (RxStep head old) latch o = registers.old_at (word Rdh head) o ≡ None
+Misses (TxStep old head) latch o = registers.old_at (word Tdh head) o ≡ None
+Misses (Extended old) latch o = (registers.old_at (word Tdh old.head) o ≡ None) × (IsTrue latch → ⊥)
+Misses effect latch o = ⊥
 
 -- ---- what it then leaves, by the kind of a register
-record Stays (e : Changed) (reg : Reg) : Type 0 where
+record Stays (e : Changed) (latch : Bool) (reg : Reg) : Type 0 where
   stored : (v : ℕ) → stored_before e reg v ≡ v
-  latched : (v : ℕ) → latched_before [] e reg v ≡ v
+  latched : IsTrue latch → (v : ℕ) → latched_before [] e reg v ≡ v
   status : (v : ℕ) → status_before e v ≡ v
   pins : (v : ℕ) → pins_before e v ≡ v
   mdic : (v : ℕ) → mdic_before e v ≡ v
@@ -44,80 +45,89 @@ latch_stays Ics v = refl
 latch_stays Imc v = refl
 latch_stays reg v = refl
 
-stays : (e : Changed) (reg : Reg) → Misses e (offset_of reg) → Stays e reg
-stays Nothing reg misses = record {
+stays : (e : Changed) (latch : Bool) (reg : Reg) → Misses e latch (offset_of reg) → Stays e latch reg
+stays Nothing latch reg misses = record {
   stored = λ v. refl;
-  latched = latch_stays reg;
+  latched = λ is. latch_stays reg;
   status = λ v. refl;
   pins = λ v. refl;
   mdic = λ v. refl;
 }
-stays (Register old) reg misses = record {
+stays (Register old) latch reg misses = record {
   stored = λ v. ap (λ x. unwrap_or x v) misses;
-  latched = latch_stays reg;
+  latched = λ is. latch_stays reg;
   status = λ v. refl;
   pins = λ v. refl;
   mdic = λ v. refl;
 }
-stays (Octets old) reg misses = record {
+stays (Octets old) latch reg misses = record {
   stored = λ v. refl;
-  latched = latch_stays reg;
+  latched = λ is. latch_stays reg;
   status = λ v. refl;
   pins = λ v. refl;
   mdic = λ v. refl;
 }
-stays (Arrival old) reg misses = record {
+stays (Arrival old) latch reg misses = record {
   stored = λ v. refl;
-  latched = latch_stays reg;
+  latched = λ is. latch_stays reg;
   status = λ v. refl;
   pins = λ v. refl;
   mdic = λ v. refl;
 }
-stays (RxStep head old) reg misses = record {
+stays (RxStep head old) latch reg misses = record {
   stored = λ v. ap (λ x. unwrap_or x v) misses;
-  latched = latch_stays reg;
+  latched = λ is. latch_stays reg;
   status = λ v. refl;
   pins = λ v. refl;
   mdic = λ v. refl;
 }
-stays (TxStep old head) reg misses = record {
+stays (TxStep old head) latch reg misses = record {
   stored = λ v. ap (λ x. unwrap_or x v) misses;
-  latched = latch_stays reg;
+  latched = λ is. latch_stays reg;
   status = λ v. refl;
   pins = λ v. refl;
   mdic = λ v. refl;
 }
-stays (Link old) reg misses = absurd misses
-stays (Pins old told) reg misses = absurd misses
-stays (Phy old) reg misses = absurd misses
-stays (Reset old) reg misses = absurd misses
+stays (Extended old) latch reg misses = record {
+  stored = λ v. ap (λ x. unwrap_or x v) misses.0;
+  latched = λ is. absurd (misses.1 is);
+  status = λ v. refl;
+  pins = λ v. refl;
+  mdic = λ v. refl;
+}
+stays (Link old) latch reg misses = absurd misses
+stays (Pins old told) latch reg misses = absurd misses
+stays (Phy old) latch reg misses = absurd misses
+stays (Reset old) latch reg misses = absurd misses
 
-leaves_kind : (kind : Kind) (c : Cells) (r : Undo) (reg : Reg) → Fits c r → Misses r.effect (offset_of reg)
+leaves_kind : (kind : Kind) (c : Cells) (r : Undo) (reg : Reg) → Fits c r
+    → Misses r.effect (is_latched_kind kind) (offset_of reg)
     → (IsTrue (is_latched_kind kind) → r.latches ≡ [])
     → gives_by kind (shows (undo c r)) reg ≡ gives_by kind (shows c) reg
 leaves_kind EepromPins c r reg fits misses none =
-    register_undone EepromPins c r reg fits ∙ (stays r.effect reg misses).pins _
+    register_undone EepromPins c r reg fits ∙ (stays r.effect false reg misses).pins _
 leaves_kind PhyCommand c r reg fits misses none =
-    register_undone PhyCommand c r reg fits ∙ (stays r.effect reg misses).mdic _
+    register_undone PhyCommand c r reg fits ∙ (stays r.effect false reg misses).mdic _
 leaves_kind Uncounted c r reg fits misses none = refl
 leaves_kind Status c r reg fits misses none =
-    register_undone Status c r reg fits ∙ (stays r.effect reg misses).status _
+    register_undone Status c r reg fits ∙ (stays r.effect false reg misses).status _
 leaves_kind Interrupt c r reg fits misses none =
     register_undone Interrupt c r reg fits ∙ ap (λ gs. latched_before gs r.effect reg (latches.gives (shows c).latches reg)) (none refl)
-    ∙ (stays r.effect reg misses).latched _
+    ∙ (stays r.effect true reg misses).latched refl _
 leaves_kind Counter c r reg fits misses none =
     register_undone Counter c r reg fits ∙ ap (λ gs. latched_before gs r.effect reg (latches.gives (shows c).latches reg)) (none refl)
-    ∙ (stays r.effect reg misses).latched _
+    ∙ (stays r.effect true reg misses).latched refl _
 leaves_kind Stored c r reg fits misses none =
-    register_undone Stored c r reg fits ∙ (stays r.effect reg misses).stored _
+    register_undone Stored c r reg fits ∙ (stays r.effect false reg misses).stored _
 leaves_kind Control c r reg fits misses none =
-    register_undone Control c r reg fits ∙ (stays r.effect reg misses).stored _
+    register_undone Control c r reg fits ∙ (stays r.effect false reg misses).stored _
 leaves_kind EepromRead c r reg fits misses none =
-    register_undone EepromRead c r reg fits ∙ (stays r.effect reg misses).stored _
+    register_undone EepromRead c r reg fits ∙ (stays r.effect false reg misses).stored _
 
 -- ---- from an offset on
 pub leaves_from : (r : Undo) (end : ℕ) (known : Option Reg)
-    → ((reg : Reg) → IsReg reg → end ≤ offset_of reg → (known ≡ Some reg → ⊥) → Misses r.effect (offset_of reg))
+    → ((reg : Reg) → IsReg reg → end ≤ offset_of reg → (known ≡ Some reg → ⊥)
+    → Misses r.effect (is_latched reg) (offset_of reg))
     → ((reg : Reg) → end ≤ offset_of reg → IsTrue (is_latched reg) → r.latches ≡ []) → LeavesFrom r end known
 leaves_from r end known misses none reg named behind other c fits =
     leaves_kind (row_of reg).kind c r reg fits (misses reg named behind other) (none reg behind)

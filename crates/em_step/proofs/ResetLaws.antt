@@ -18,6 +18,7 @@ use Rattle.em_latch.specs.Latches as latches
 use Rattle.em_latch.specs.Latches.{fresh}
 use Rattle.em_latch.specs.Storage.{offsets}
 use Rattle.em_eeprom.specs.Eeprom.{mac_of}
+use Rattle.em_offload.specs.Offload.{no_offload}
 use Rattle.em_rx.specs.Fifo as rx
 use Rattle.em_step.specs.Cells as cells
 use Rattle.em_step.specs.Cells.{Cells, shows}
@@ -114,4 +115,5 @@ new_is_reset profile base size eeprom =
       profile = profile;
       pins = c.pins;
       phy = c.phy;
+      offload = no_offload;
     }

@@ -61,6 +61,7 @@ changed_same (effect.Arrival old place) x y fits held same =
 changed_same (effect.RxStep high word low end rest) x y fits held same =
     receiving_same (piece high word low end rest) x y fits held same
 changed_same (effect.TxStep old head) x y fits held same = refl
+changed_same (effect.Extended old) x y fits held same = refl
 changed_same (effect.Link old) x y fits held same = refl
 changed_same (effect.Pins old told) x y fits held same = refl
 changed_same (effect.Phy old) x y fits held same = refl
@@ -79,6 +80,7 @@ held_cost (effect.Octets high len low place) = omega arith
 held_cost (effect.Arrival old place) = omega arith
 held_cost (effect.RxStep high word low end rest) = omega arith
 held_cost (effect.TxStep old head) = omega arith
+held_cost (effect.Extended old) = omega arith
 held_cost (effect.Link old) = omega arith
 held_cost (effect.Pins old told) = omega arith
 held_cost (effect.Phy old) = omega arith

@@ -14,8 +14,8 @@ use Rattle.em_tx.specs.declared.undo.TxUndo.{TxUndo}
 use Rattle.em_tx.specs.declared.undo.TxUndo.TheVariants as tx_undo
 use Rattle.em_step.specs.Cells.{Cells, shows}
 use Rattle.em_step.specs.Undo.{EffectFits, Fits, tx_cells_of, undo, undo_effect}
-use Rattle.em_step.specs.Undo.{Changed, Undo, Nothing, Register, Octets, Arrival, RxStep, TxStep, Link, Pins, Phy}
-use Rattle.em_step.specs.Undo.{Reset}
+use Rattle.em_step.specs.Undo.{Changed, Undo, Nothing, Register, Octets, Arrival, RxStep, TxStep, Extended, Link, Pins}
+use Rattle.em_step.specs.Undo.{Phy, Reset}
 
 size_patch : (m : memory.Cells) (p : memory.Patch) → memory.Fits m p
     → length (memory.undo m p).octets ≡ length m.octets
@@ -45,6 +45,7 @@ size_effect c l (Octets old) fits = size_patch c.memory old fits
 size_effect c l (Arrival old) fits = refl
 size_effect c l (RxStep head old) fits = size_both c.fifo c.memory old fits.1
 size_effect c l (TxStep old head) fits = size_status c.memory old.status fits.1.1
+size_effect c l (Extended old) fits = size_status c.memory old.change.status fits.1.1
 size_effect c l (Link old) fits = refl
 size_effect c l (Pins old told) fits = refl
 size_effect c l (Phy old) fits = refl
@@ -73,6 +74,7 @@ base_effect c l (Octets old) = refl
 base_effect c l (Arrival old) = refl
 base_effect c l (RxStep head old) = refl
 base_effect c l (TxStep old head) = base_status c.memory old.status
+base_effect c l (Extended old) = base_status c.memory old.change.status
 base_effect c l (Link old) = refl
 base_effect c l (Pins old told) = refl
 base_effect c l (Phy old) = refl
@@ -87,6 +89,7 @@ profile_effect c l (Octets old) = refl
 profile_effect c l (Arrival old) = refl
 profile_effect c l (RxStep head old) = refl
 profile_effect c l (TxStep old head) = refl
+profile_effect c l (Extended old) = refl
 profile_effect c l (Link old) = refl
 profile_effect c l (Pins old told) = refl
 profile_effect c l (Phy old) = refl

@@ -2,10 +2,10 @@
 use Rattle.std.proofs.Common.{◌≡◌, ◌≢◌, ◌∙◌, ℕ, ◌+◌, ◌≤◌, ◌==◌, ◌||◌, ◌&&◌, Bool, true, false}
 use Rattle.std.proofs.Common.{not, if◌then◌else◌, List, [], ◌∷◌, ◌++◌, length, refl, sym, ap, subst, inl, inr}
 use Rattle.std.proofs.Common.{arith, Option, Some, None, Result, Ok, Err}
-use Rattle.std.specs.Prelude.{◌⊎◌, drop, min, nat_lt, nat_le, slice_index_or, All}
+use Rattle.std.specs.Prelude.{◌⊎◌, drop, min, nat_lt, nat_le, set, slice_index_or, All}
 use Rattle.std.proofs.lemmas.Bool.{eqb-false, ltb-false}
 use Rattle.std.proofs.lemmas.Bool.Decides.{nat_tests}
-use Rattle.std.proofs.lemmas.List.{take_all}
+use Rattle.std.proofs.lemmas.List.{get_or-set_other, take_all}
 use Rattle.em_mem.specs.Memory.{LiesIn, leaves, part, put}
 use Rattle.em_mem.proofs.PutLaws.{length-part}
 use Rattle.em_regs.specs.declared.reg.Reg.TheVariants.{Tdh, Tdt}
@@ -17,6 +17,7 @@ use Rattle.em_regs.specs.Setup.{bit}
 use Rattle.em_filter.specs.Filters.{longest, passes_address, passes_others, verdict}
 use Rattle.em_address.specs.Kind.{destination, kind_of}
 use Rattle.em_regs.specs.declared.profile.Profile.{Profile}
+use Rattle.em_regs.specs.declared.profile.Profile.TheVariants.{Table, Adapter}
 use Rattle.em_filter.specs.Vlan.{tagged, carries_tag}
 use Rattle.em_address.specs.declared.kind.Kind.{Kind}
 use Rattle.em_filter.specs.declared.outcome.Verdict.{Verdict}
@@ -31,9 +32,10 @@ use Rattle.em_rx.specs.declared.control.RxControl.{RxControl}
 use Rattle.em_rx.specs.declared.step.RxAnswer.TheVariants as rx_answer
 use Rattle.em_rx.specs.declared.refusal.RxRefusal.TheVariants as rx_refusal
 use Rattle.em_tx.specs.Cells.{Shown}
-use Rattle.em_tx.specs.Control.{is_still}
-use Rattle.em_tx.specs.Descriptor.{address, command, length_of, eop, rs}
+use Rattle.em_tx.specs.Control.{as_read, is_still, without_octets}
+use Rattle.em_tx.specs.Descriptor.{address, command, dext, length_of, eop, rs}
 use Rattle.em_tx.specs.Engine.{fetch, gather, handle, refusal, report, send, sends, transmit, unless}
+use Rattle.em_tx.specs.Extended.{raw}
 use Rattle.em_tx.specs.Frame.{frame, tag_of, with_padding, with_tag}
 use Rattle.em_tx.specs.Ring as tx
 use Rattle.em_tx.specs.declared.answer.TxAnswer.{TxAnswer}
@@ -43,8 +45,9 @@ use Rattle.em_tx.specs.declared.refusal.TxRefusal.TheVariants as tx_refusal
 use Rattle.em_step.specs.Arrival.{after_accept, after_arrived, after_miss, arrival, is_enabled, judged, judgement, kept_frame}
 use Rattle.em_step.specs.Arrival.{keeps_sequence, lacks_room, with_sequence}
 use Rattle.em_step.specs.Engines.{after_rx_answer, after_tx_answer, rx_step, rx_stepped, sending, tx_step, tx_stepped}
-use Rattle.em_step.specs.Engines.{is_halted, rx_control, tx_control, with_outcome, with_shown}
-use Rattle.em_step.specs.State.{State}
+use Rattle.em_step.specs.Engines.{extended_step, has_extended, is_halted, rx_control, transmitted, tx_control, with_outcome}
+use Rattle.em_step.specs.Engines.{with_shown}
+use Rattle.em_step.specs.State.{State, is_adapter}
 use Rattle.em_step.specs.Step.{arrive}
 use Rattle.em_step.specs.Whole.{IsUsual, IsPlain, plain, KeepsAllButFifo, Admits, ReceivesWhole, padded}
 use Rattle.em_step.specs.Whole.{next_descriptor, next_packet, IsWhole, SendsWhole}
@@ -363,12 +366,54 @@ transmitted_by s false false r is ok no_vlan pad none whole =
       profile = ap (λ x. x.1.profile) now;
     })
 
+-- a descriptor is read with the command that it has
+command_by : (d : List ℕ) (b : Bool) → command (if b then without_octets d else d) ≡ command d
+command_by d true = get_or-set_other (set d 8 0) 9 11 0 0 (omega arith) ∙ get_or-set_other d 8 11 0 0 (omega arith)
+command_by d false = refl
+
+command_read : (p : Profile) (d : List ℕ) → command (as_read p d) ≡ command d
+unfolding as_read
+command_read Table d = refl
+command_read Adapter d = command_by d (address d == 0)
+
+-- with that command it has not the extended format
+dext_clear : (d : List ℕ) → command d ≡ 0x0B → dext d ≡ false
+unfolding dext
+dext_clear d is = ap (λ c. bit c 5) is
+
+extended_tests : (adapter still out dext : Bool) → (adapter && (not still && (not out && dext))) ≡ true
+    → (still ≡ false) × (dext ≡ true)
+extended_tests true false false dext is = (refl, is)
+extended_tests false still out dext is = cc
+extended_tests true true out dext is = cc
+extended_tests true false true dext is = cc
+
+not_extended : (s : State) → (value_of s.registers Tdh ≢ value_of s.registers Tdt → IsWhole s)
+    → has_extended s ≡ true → ⊥
+not_extended s whole is =
+    let q = tx_setup s.registers in
+    let d = raw (tx_control s) s.memory in
+    let tests = extended_tests (is_adapter s.profile) (is_still (tx_control s)) (leaves s.base s.memory (tx.place q) 16) (dext d) is in
+    let busy = tx_not_idle q.enabled (nat_le q.count q.head) (nat_le q.count q.tail) (q.head == q.tail)
+    (neither (tx.is_idle q) (is_halted s) tests.0).0 in
+    let w = whole (eqb-false q.head q.tail busy.1) in
+    let clear = dext_clear d (sym (command_read s.profile d) ∙ w.command) in
+    cc (clear, tests.1)
+
 -- a transmit step does nothing, or the packet at TDH goes whole onto the wire
-pub sent_whole : (s : State) (r : Answer × State) → tx_step s ≡ Ok r
+sent_by : (s : State) (extended : Bool) (r : Answer × State) → has_extended s ≡ extended
+    → (if extended then extended_step s else tx_stepped s (transmitted s)) ≡ Ok r
     → (tx_setup s.registers).vlan ≡ None → (tx_setup s.registers).pad ≡ true → s.gathered ≡ []
     → (value_of s.registers Tdh ≢ value_of s.registers Tdt → IsWhole s)
     → (r.1 ≡ s) ⊎ SendsWhole s r.1
 unfolding transmit
-sent_whole s r ok no_vlan pad none whole =
+sent_by s true r is ok no_vlan pad none whole = absurd (not_extended s whole is)
+sent_by s false r is ok no_vlan pad none whole =
     let q = tx_setup s.registers in
     transmitted_by s (is_still (tx_control s)) (leaves s.base s.memory (tx.place q) 16) r refl ok no_vlan pad none whole
+
+pub sent_whole : (s : State) (r : Answer × State) → tx_step s ≡ Ok r
+    → (tx_setup s.registers).vlan ≡ None → (tx_setup s.registers).pad ≡ true → s.gathered ≡ []
+    → (value_of s.registers Tdh ≢ value_of s.registers Tdt → IsWhole s)
+    → (r.1 ≡ s) ⊎ SendsWhole s r.1
+sent_whole s r ok no_vlan pad none whole = sent_by s (has_extended s) r refl ok no_vlan pad none whole

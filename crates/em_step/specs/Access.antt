@@ -12,6 +12,7 @@ use Rattle.em_latch.specs.Latches.{is_latched}
 use Rattle.em_eeprom.specs.Eeprom.{mac_of, word_at}
 use Rattle.em_pins.specs.Pins as pins
 use Rattle.em_phy.specs.Phy as phy
+use Rattle.em_offload.specs.Offload.{no_offload}
 use Rattle.em_rx.specs.Fifo.{empty}
 use Rattle.em_step.specs.State.{State, status}
 
@@ -33,7 +34,7 @@ abbrev pub after_read : State → Reg → State
 after_read s reg = if is_latched reg then record s { latches = latches.after_read s.latches reg } else s
 
 -- a reset leaves each register its start value, but STATUS and the first receive address, which is the EEPROM's, the
--- FIFO empty and nothing gathered; memory, EEPROM, link and wire stay, and the EEPROM's pins and the PHY, and PBA in the
+-- FIFO empty, nothing gathered and no context loaded; memory, EEPROM, link and wire stay, and the EEPROM's pins and the PHY, and PBA in the
 -- second profile (this project's profile)
 abbrev pub reset : State → State
 reset s = record s {
@@ -41,6 +42,7 @@ reset s = record s {
   latches = latches.fresh;
   fifo = empty;
   gathered = [];
+  offload = no_offload;
 }
 
 -- v has the bit

@@ -25,7 +25,8 @@ use Rattle.em_step.specs.Access.{gives}
 use Rattle.em_step.specs.Cells.{Cells, shows}
 use Rattle.em_step.specs.State.{State}
 use Rattle.em_step.specs.Undo.{Changed, Fits, Undo, undo, word}
-use Rattle.em_step.specs.Undo.{Register, Octets, Arrival, RxStep, TxStep, Link, Pins, Phy, Reset}
+use Rattle.em_step.specs.Undo.{Register, Octets, Arrival, RxStep, TxStep, Extended, Link, Pins, Phy, Reset}
+use Rattle.em_tx.specs.Extended.{gathered_by}
 
 -- ---- what an answer about a record means: in any cells that the record fits
 -- what reads so now reads so once the record is put back
@@ -51,10 +52,9 @@ abbrev pub WroteOnly : Undo → List Range → Type 0
 WroteOnly r ranges = (c : Cells) → Fits c r
     → with_octets_of (shows c).memory (shows (undo c r)).memory ranges ≡ (shows (undo c r)).memory
 
--- one frame comes off the wire, or none
-abbrev pub TakesOffWire : Undo → Bool → Type 0
-TakesOffWire r off =
-    (c : Cells) → Fits c r → length (shows c).wire ≡ length (shows (undo c r)).wire + (if off then 1 else 0)
+-- so many frames come off the wire
+abbrev pub TakesOffWire : Undo → ℕ → Type 0
+TakesOffWire r off = (c : Cells) → Fits c r → length (shows c).wire ≡ length (shows (undo c r)).wire + off
 
 -- the gathered octets are others once it is put back, where that frame went last to the wire, or none did
 abbrev pub PutsBackGathered : Undo → List ℕ → List ℕ → List ℕ → Type 0
@@ -67,6 +67,7 @@ abbrev pub stored_before : Changed → Reg → ℕ → ℕ
 stored_before (Register old) reg now = unwrap_or (registers.old_at old (offset_of reg)) now
 stored_before (RxStep head old) reg now = unwrap_or (registers.old_at (word Rdh head) (offset_of reg)) now
 stored_before (TxStep old head) reg now = unwrap_or (registers.old_at (word Tdh head) (offset_of reg)) now
+stored_before (Extended old) reg now = unwrap_or (registers.old_at (word Tdh old.head) (offset_of reg)) now
 stored_before (Reset old) reg now = registers.at old.registers (offset_of reg)
 stored_before effect reg now = now
 
@@ -78,6 +79,7 @@ latch_before growths reg now = latches.before_at growths (offset_of reg) now
 
 abbrev pub latched_before : List Growth → Changed → Reg → ℕ → ℕ
 latched_before growths (Reset old) reg now = latches.gives old.latches reg
+latched_before growths (Extended old) reg now = latches.gives old.latches reg
 latched_before growths effect reg now = latch_before growths reg now
 
 abbrev pub link_before : Changed → Bool → Bool
@@ -135,6 +137,7 @@ abbrev pub octets_before : Changed → ℕ → List ℕ → List ℕ
 octets_before (Octets old) a now = lay_over a now old
 octets_before (RxStep head old) a now = rx.laid_step old a now
 octets_before (TxStep old head) a now = tx.laid_status old.status a now
+octets_before (Extended old) a now = tx.laid_status old.change.status a now
 octets_before (Reset old) a now = tx.laid old.gathered a now
 octets_before effect a now = now
 
@@ -143,6 +146,7 @@ abbrev pub next_octet : Changed → ℕ → Option ℕ
 next_octet (Octets old) a = extent.next_octet a old
 next_octet (RxStep head old) a = rx.next_of_step old a
 next_octet (TxStep old head) a = tx.next_of_status old.status a
+next_octet (Extended old) a = tx.next_of_status old.change.status a
 next_octet (Reset old) a = tx.next_of old.gathered a
 next_octet effect a = None
 
@@ -155,6 +159,7 @@ abbrev pub written : Changed → List Range
 written (Octets old) = range_of old ∷ no_octets ∷ []
 written (RxStep head old) = range_of old.first ∷ range_of old.second ∷ []
 written (TxStep old head) = tx_needs.written_at old.status ∷ no_octets ∷ []
+written (Extended old) = tx_needs.written_at old.change.status ∷ no_octets ∷ []
 written (Reset old) = tx_needs.written_by old.gathered
 written effect = no_octets ∷ no_octets ∷ []
 
@@ -168,11 +173,16 @@ frames_before effect now = now
 -- of the gathered octets, where that frame went last to the wire
 abbrev pub gathered_before : Changed → List ℕ → List ℕ → List ℕ
 gathered_before (TxStep old head) now last = gathered_of old.count old.sent now last
+gathered_before (Extended old) now last = gathered_by old.change.gathered now
 gathered_before (Reset old) now last = tx.gathered_by old.gathered now last
 gathered_before effect now last = now
 
--- whether it sent a frame
-abbrev pub has_sent : Changed → Bool
-has_sent (TxStep old head) = tx.has_sent old.sent
-has_sent (Reset old) = tx.has_sent_by old.gathered
-has_sent effect = false
+-- how many frames it sent
+abbrev pub one_if : Bool → ℕ
+one_if sent = if sent then 1 else 0
+
+abbrev pub frames_sent : Changed → ℕ
+frames_sent (TxStep old head) = one_if (tx.has_sent old.sent)
+frames_sent (Extended old) = old.change.frames
+frames_sent (Reset old) = one_if (tx.has_sent_by old.gathered)
+frames_sent effect = 0

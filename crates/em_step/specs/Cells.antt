@@ -11,6 +11,8 @@ use Rattle.em_latch.specs.Latches as latches
 use Rattle.em_eeprom.specs.Eeprom.{mac_of}
 use Rattle.em_pins.specs.Pins as pins
 use Rattle.em_phy.specs.Phy as phy
+use Rattle.em_offload.specs.Offload.{no_offload}
+use Rattle.em_offload.specs.declared.offload.Offload.{Offload}
 use Rattle.em_rx.specs.Fifo as rx
 use Rattle.em_tx.specs.Cells.{Gathered, MoreRoom, gathered_code, none_gathered}
 use Rattle.em_tx.specs.Wire.{let_go}
@@ -28,6 +30,7 @@ pub record Cells : Type 0 where
   pub profile : Profile
   pub pins : pins.State
   pub phy : phy.State
+  pub offload : Offload
 
 -- cells are stored as the tuple of their fields
 abbrev pub cells_code : Coded Cells
@@ -51,7 +54,7 @@ cells_code =
                 c.wire,
                 (
                   c.eeprom,
-                  (c.link, (c.profile, (c.pins, c.phy))),
+                  (c.link, (c.profile, (c.pins, (c.phy, c.offload)))),
                 ),
               ),
             ),
@@ -70,7 +73,8 @@ cells_code =
       link = p.1.1.1.1.1.1.1.0;
       profile = p.1.1.1.1.1.1.1.1.0;
       pins = p.1.1.1.1.1.1.1.1.1.0;
-      phy = p.1.1.1.1.1.1.1.1.1.1;
+      phy = p.1.1.1.1.1.1.1.1.1.1.0;
+      offload = p.1.1.1.1.1.1.1.1.1.1.1;
     })
     (λ _. refl)
 
@@ -89,6 +93,7 @@ shows c = record {
   profile = c.profile;
   pins = c.pins;
   phy = c.phy;
+  offload = c.offload;
 }
 
 -- the octets of the first k frames that were sent are let go
@@ -110,6 +115,7 @@ fresh_as profile base size eeprom = record {
   profile = profile;
   pins = pins.at_rest;
   phy = phy.start;
+  offload = no_offload;
 }
 
 -- the same of the first profile
@@ -129,3 +135,4 @@ pub record MorePages (c d : Cells) : Type 0 where
   pub profile : d.profile ≡ c.profile
   pub pins : d.pins ≡ c.pins
   pub phy : d.phy ≡ c.phy
+  pub offload : d.offload ≡ c.offload

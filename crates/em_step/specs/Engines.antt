@@ -1,5 +1,5 @@
 -- The two engines, each of which handles one descriptor of its ring at a time: what a step of one answers and leaves.
-use Rattle.std.specs.Prelude.{ℕ, ◌+◌, ◌&&◌, not, Bool, false, List, [], ◌∷◌, Result, Ok, Err}
+use Rattle.std.specs.Prelude.{ℕ, ◌+◌, ◌&&◌, not, Bool, false, if◌then◌else◌, List, [], ◌∷◌, length, drop, min, Result, Ok, Err}
 use Rattle.em_regs.specs.declared.reg.Reg.TheVariants.{Rdh, Tdh}
 use Rattle.em_regs.specs.RegFile.{put}
 use Rattle.em_regs.specs.Setup.{rx_setup, tx_setup}
@@ -17,6 +17,11 @@ use Rattle.em_rx.specs.declared.refusal.RxRefusal.{RxRefusal}
 use Rattle.em_rx.specs.declared.refusal.RxRefusal.TheVariants as rx_refusal
 use Rattle.em_tx.specs.Cells.{Shown}
 use Rattle.em_tx.specs.Engine as tx
+use Rattle.em_tx.specs.Extended.{Both, is_extended, raw, transmit_extended}
+use Rattle.em_tx.specs.Frame.{kind_sent}
+use Rattle.em_tx.specs.Ring as ring
+use Rattle.em_tx.specs.declared.extended.Did.{Did}
+use Rattle.em_tx.specs.declared.extended.Did.TheVariants as did
 use Rattle.em_tx.specs.declared.answer.TxAnswer.{TxAnswer}
 use Rattle.em_tx.specs.declared.answer.TxAnswer.TheVariants as tx_answer
 use Rattle.em_tx.specs.declared.control.TxControl.{TxControl}
@@ -116,5 +121,51 @@ abbrev pub tx_stepped : State → Result (TxAnswer × Shown) TxRefusal → Resul
 tx_stepped s (Ok r) = Ok (after_tx_answer (with_shown s r.1) r.0)
 tx_stepped s (Err refusal) = Err (tx_refused refusal)
 
+-- ---- a descriptor of the extended format, in the second profile
+abbrev pub has_extended : State → Bool
+has_extended s = is_adapter s.profile && is_extended (tx_control s) s.base s.memory
+
+-- what a step over it works on
+abbrev pub sending_both : State → Both
+sending_both s = record { shown = sending s; offload = s.offload }
+
+-- each frame that was sent is counted
+abbrev pub counted_all : Profile → List (List ℕ) → Registers → Registers
+counted_all p [] m = m
+counted_all p (f ∷ fs) m = counted_all p fs (after_sent_count p (length f + 4) (kind_sent f) m)
+
+-- how many octets frames have
+abbrev pub octets_of : List (List ℕ) → ℕ
+octets_of [] = 0
+octets_of (f ∷ fs) = length f + octets_of fs
+
+-- it answers that a descriptor was fetched, or how many octets the frames have that were sent: 2^32 less one at most
+abbrev pub answer_of_did : ℕ → Did → List (List ℕ) → Answer
+answer_of_did index did.Loaded frames = Fetched index
+answer_of_did index did.Fetched frames = Fetched index
+answer_of_did index (did.Sent n segments) frames = Sent index (min (octets_of frames) 0xFFFF_FFFF)
+
+-- the state as the transmit engine leaves it, with the frames counted that came last to the wire
+abbrev pub with_both : State → Both → State
+with_both s b = record (with_shown s b.shown) {
+  offload = b.offload;
+  latches = counted_all s.profile (drop (length s.wire) b.shown.wire) s.latches;
+}
+
+abbrev pub after_did : State → Did → Both → Answer × State
+after_did s d b = (
+  answer_of_did (tx_setup s.registers).head d (drop (length s.wire) b.shown.wire),
+  after_descriptor (with_both s b) (ring.next (tx_setup s.registers))
+      (ring.causes (tx_setup s.registers) (raw (tx_control s) s.memory)),
+)
+
+abbrev pub extended_stepped : State → Result (Did × Both) TxRefusal → Result (Answer × State) Refusal
+extended_stepped s (Ok r) = Ok (after_did s r.0 r.1)
+extended_stepped s (Err refusal) = Err (tx_refused refusal)
+
+abbrev pub extended_step : State → Result (Answer × State) Refusal
+extended_step s = extended_stepped s (transmit_extended (tx_control s) s.base (sending_both s))
+
+-- ---- any descriptor
 abbrev pub tx_step : State → Result (Answer × State) Refusal
-tx_step s = tx_stepped s (transmitted s)
+tx_step s = if has_extended s then extended_step s else tx_stepped s (transmitted s)

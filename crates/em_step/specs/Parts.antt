@@ -16,3 +16,4 @@ pub record IsMadeOf (c : Cells) (parts : Parts) : Type 0 where
   pub profile : c.profile ≡ parts.profile
   pub pins : c.pins ≡ parts.pins
   pub phy : c.phy ≡ parts.phy
+  pub offload : c.offload ≡ parts.offload

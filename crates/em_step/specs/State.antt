@@ -7,6 +7,8 @@ use Rattle.em_regs.specs.Storage.{Registers}
 use Rattle.em_regs.specs.RegFile.{registers_code}
 use Rattle.em_pins.specs.Pins as pins
 use Rattle.em_phy.specs.Phy as phy
+use Rattle.em_offload.specs.declared.offload.Offload.{Offload}
+use Rattle.em_offload.specs.declared.sums.Sums.{Sums}
 use Rattle.em_rx.specs.Frame.{Frame}
 use Rattle.em_rx.specs.Fifo.{Fifo}
 use Rattle.em_tx.specs.Wire.{let_go}
@@ -36,6 +38,8 @@ pub record State : Type 0 where
   pub pins : pins.State
   -- MDIC, and the PHY
   pub phy : phy.State
+  -- the contexts that were loaded, and which checksums the frame gets that is gathered
+  pub offload : Offload
 
 abbrev pub frame_code : Coded Frame
 frame_code =
@@ -73,12 +77,22 @@ phy_code =
     code_by (ℕ × List ℕ) (coded× coded_ℕ (coded_list coded_ℕ))
     (λ s. (s.mdic, s.words)) (λ p. record { mdic = p.0; words = p.1 }) (λ _. refl)
 
+abbrev pub sums_code : Coded Sums
+sums_code =
+    code_by (Bool × Bool) (coded× coded_bool coded_bool)
+    (λ s. (s.ip, s.transport)) (λ p. record { ip = p.0; transport = p.1 }) (λ _. refl)
+
+abbrev pub offload_code : Coded Offload
+offload_code =
+    code_by (List ℕ × (List ℕ × Sums)) (coded× (coded_list coded_ℕ) (coded× (coded_list coded_ℕ) sums_code))
+    (λ o. (o.whole, (o.segments, o.sums))) (λ p. record { whole = p.0; segments = p.1.0; sums = p.1.1 }) (λ _. refl)
+
 -- the link, the profile, and what the second profile has besides
 abbrev pub Rest : Type 0
-Rest = Bool × (Profile × (pins.State × phy.State))
+Rest = Bool × (Profile × (pins.State × (phy.State × Offload)))
 
 abbrev pub rest_code : Coded Rest
-rest_code = coded× coded_bool (coded× profile_code (coded× pins_code phy_code))
+rest_code = coded× coded_bool (coded× profile_code (coded× pins_code (coded× phy_code offload_code)))
 
 -- a state is stored as the tuple of its fields
 abbrev pub state_code : Coded State
@@ -104,7 +118,7 @@ state_code =
                   s.wire,
                   (
                     s.eeprom,
-                    (s.link, (s.profile, (s.pins, s.phy))),
+                    (s.link, (s.profile, (s.pins, (s.phy, s.offload)))),
                   ),
                 ),
               ),
@@ -125,7 +139,8 @@ state_code =
       link = p.1.1.1.1.1.1.1.1.0;
       profile = p.1.1.1.1.1.1.1.1.1.0;
       pins = p.1.1.1.1.1.1.1.1.1.1.0;
-      phy = p.1.1.1.1.1.1.1.1.1.1.1;
+      phy = p.1.1.1.1.1.1.1.1.1.1.1.0;
+      offload = p.1.1.1.1.1.1.1.1.1.1.1.1;
     })
     (λ _. refl)
 

@@ -11,6 +11,7 @@ use Rattle.em_regs.specs.Storage.{Registers}
 use Rattle.em_latch.specs.Latches as latches
 use Rattle.em_latch.specs.Latches.{Growth}
 use Rattle.em_pins.specs.Pins as pins
+use Rattle.em_offload.specs.declared.offload.Offload.{Offload}
 use Rattle.em_phy.specs.Phy as phy
 use Rattle.em_rx.specs.FramePatch.{FramePatch}
 use Rattle.em_rx.specs.StepPatch.{StepPatch}
@@ -21,11 +22,14 @@ use Rattle.em_rx.specs.Fifo.{IsSound}
 use Rattle.em_rx.specs.declared.places.Places.{Places}
 use Rattle.em_tx.specs.Change.{Change}
 use Rattle.em_tx.specs.Cells as tx_cells
+use Rattle.em_tx.specs.Extended.{FitsExtended, undo_extended}
 use Rattle.em_tx.specs.Undo as tx
+use Rattle.em_tx.specs.declared.extended.BeforeExtended.{BeforeExtended}
 use Rattle.em_tx.specs.declared.undo.TxUndo.{TxUndo}
 use Rattle.em_tx.specs.declared.undo.TxUndo.TheVariants as tx_undo
 use Rattle.em_step.specs.Cells.{Cells, MorePages}
 use Rattle.em_step.specs.declared.undo.BeforeReset.{BeforeReset}
+use Rattle.em_step.specs.declared.undo.ExtendedUndo.{ExtendedUndo}
 use Rattle.em_step.specs.declared.undo.Record.{Record}
 use Rattle.em_step.specs.declared.undo.Effect.{Effect}
 use Rattle.em_step.specs.declared.undo.Effect.TheVariants as effect
@@ -36,6 +40,13 @@ pub record Aside : Type 0 where
   pub latches : Registers
   pub places : Places
   pub gathered : TxUndo
+  pub offload : Offload
+
+-- what a step over a transmit descriptor of the extended format changed: TDH, all latches, and what em_tx tells
+pub record OldExtended : Type 0 where
+  pub head : ℕ
+  pub latches : Registers
+  pub change : BeforeExtended
 
 -- what an event changed beside words of the latches, as it was
 pub data Changed : Type 0 where
@@ -50,6 +61,8 @@ pub data Changed : Type 0 where
   RxStep : ℕ → StepPatch → Changed
   -- what a transmit step changed, and TDH
   TxStep : Change → ℕ → Changed
+  -- and one over a descriptor of the extended format
+  Extended : OldExtended → Changed
   Link : Bool → Changed
   -- the pins of EECD, and what a read of it gave
   Pins : pins.State → ℕ → Changed
@@ -87,7 +100,16 @@ abbrev pub receiving : OldPiece → OldOctets → Changed
 receiving p o = RxStep (from_le_bytes w32 (take 4 o.octets)) (step_patch p (given_up 4 o))
 
 abbrev pub aside : BeforeReset → Aside
-aside b = record { registers = b.registers.value; latches = b.latches; places = b.places; gathered = b.gathered }
+aside b = record {
+  registers = b.registers.value;
+  latches = b.latches;
+  places = b.places;
+  gathered = b.gathered;
+  offload = b.offload;
+}
+
+abbrev pub old_extended : ExtendedUndo → OldExtended
+old_extended b = record { head = b.head; latches = b.latches; change = b.change }
 
 -- what an effect means, with the old octets that were saved for it
 abbrev pub changed : Effect → OldOctets → Changed
@@ -97,6 +119,7 @@ changed (effect.Octets high len low place) o = Octets (record { at = address hig
 changed (effect.Arrival old place) o = Arrival (frame_patch old o)
 changed (effect.RxStep high word low end rest) o = receiving (piece high word low end rest) o
 changed (effect.TxStep old head) o = TxStep old head
+changed (effect.Extended old) o = Extended (old_extended old.value)
 changed (effect.Link old) o = Link old
 changed (effect.Pins old told) o = Pins old told
 changed (effect.Phy old) o = Phy old
@@ -174,6 +197,8 @@ EffectFits c (Octets old) = memory.Fits c.memory old
 EffectFits c (Arrival old) = rx.FitsFrame c.fifo old
 EffectFits c (RxStep head old) = registers.Fits c.registers (word Rdh head) × rx.FitsStep c.fifo c.memory old
 EffectFits c (TxStep old head) = registers.Fits c.registers (word Tdh head) × tx.Fits (tx_cells_of c) (tx_undo.Step old)
+EffectFits c (Extended old) =
+    registers.Fits c.registers (word Tdh old.head) × FitsExtended (tx_cells_of c) old.change
 EffectFits c (Link old) = Unit {0}
 EffectFits c (Pins old told) = told ≡ pins.eecd c.eeprom old
 EffectFits c (Phy old) = phy.Fits c.phy old
@@ -212,6 +237,13 @@ abbrev pub undo_piece : Cells → StepPatch → Cells
 undo_piece c old =
     record c { fifo = record c.fifo { places = rx.places_before c.fifo old }; memory = rx.with_both c.memory old }
 
+-- the cells with what a step over a descriptor of the extended format changed put back
+abbrev pub undo_sending : Cells → OldExtended → Cells
+undo_sending c old =
+    with_tx_cells
+    (record (undo_register c (word Tdh old.head)) { latches = old.latches; offload = old.change.offload })
+    (undo_extended (tx_cells_of c) old.change)
+
 -- the cells with what was changed put back
 abbrev pub undo_effect : Cells → Changed → Cells
 undo_effect c Nothing = c
@@ -220,11 +252,13 @@ undo_effect c (Octets old) = undo_octets c old
 undo_effect c (Arrival old) = undo_arrival c old
 undo_effect c (RxStep head old) = undo_piece (undo_register c (word Rdh head)) old
 undo_effect c (TxStep old head) = undo_transmit (undo_register c (word Tdh head)) (tx_undo.Step old)
+undo_effect c (Extended old) = undo_sending c old
 undo_effect c (Link old) = record c { link = old }
 undo_effect c (Pins old told) = record c { pins = pins.undo c.pins old }
 undo_effect c (Phy old) = record c { phy = phy.undone c.phy old }
 undo_effect c (Reset old) = undo_places
-    (undo_transmit (record c { registers = old.registers; latches = old.latches }) old.gathered) old.places
+    (undo_transmit (record c { registers = old.registers; latches = old.latches; offload = old.offload }) old.gathered)
+    old.places
 
 -- the cells with the record put back: the words of the latches, and then the effect
 abbrev pub undo : Cells → Undo → Cells

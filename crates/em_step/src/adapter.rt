@@ -18,17 +18,18 @@ ghost use Rattle.em_step.specs.Event.{links, plain, pokes, reads, writes};
 ghost use Rattle.em_mem.specs.OldOctets.{OldOctets};
 ghost use Rattle.em_step.specs.Performed.{PerformedPlainly, WasPerformed, WasRefused};
 ghost use Rattle.em_step.specs.Undo.{Fits, EffectFits, Reverses, ReversesPlainly, held, undo, undo_effect, undo_of};
-ghost use Rattle.em_step.specs.Undo.{Register, Reset, TxStep, aside};
+ghost use Rattle.em_step.specs.Undo.{Extended, Register, Reset, TxStep, aside, old_extended};
 ghost use Rattle.em_step.specs.Cost.{cost_by, cost_of, least_cost, most_cost};
 
 use crate::event::{Answer, Event};
 use crate::packed::piece_of;
 use crate::refusal::Refusal;
-use crate::undo::{BeforeReset, Effect, LEAST_COST, MOST_COST, Record, Undo};
+use crate::undo::{BeforeReset, Effect, ExtendedUndo, LEAST_COST, MOST_COST, Record, Undo};
 use bitflags::Flags;
 use em_eeprom::Eeprom;
 use em_latch::Latches;
 use em_mem::{GuestMemory, MemRefusal, OldOctets, Reversible, Saved, Spares};
+use em_offload::Offload;
 use em_phy::{Phy, asks_for_interrupt};
 use em_pins::Pins;
 use em_regs::{Causes, Ctrl, Eerd, Kind, Profile, Reg, RegFile, RegUndo, Status};
@@ -53,6 +54,7 @@ pub struct Adapter {
     pub(crate) profile: Profile,
     pub(crate) pins: Pins,
     pub(crate) phy: Phy,
+    pub(crate) offload: Offload,
     // what was let go serves the next record
     pub(crate) spare_resets: Spares<BeforeReset>,
 }
@@ -76,6 +78,7 @@ impl Model for Adapter {
       profile = a.profile;
       pins = a.pins;
       phy = a.phy;
+      offload = a.offload;
     } };
 
     ghost use Rattle.em_eeprom.specs.Eeprom.{IsEeprom};
@@ -157,6 +160,7 @@ impl Adapter {
             profile,
             pins: Pins::new(),
             phy: Phy::new(),
+            offload: Offload::none(),
             spare_resets,
         })
     }
@@ -184,6 +188,7 @@ impl Adapter {
             profile: self.profile,
             pins: self.pins,
             phy: self.phy.copy(),
+            offload: self.offload,
             spare_resets,
         })
     }
@@ -563,6 +568,7 @@ impl Adapter {
                 rest,
             } => self.take_back_receiving(&piece_of(high, word, low, end, rest), old),
             Effect::TxStep(change, head) => self.take_back_sending(change, head),
+            Effect::Extended(old) => self.take_back_extended(old),
             Effect::Link(old) => self.link = old,
             Effect::Pins(old, _) => self.pins.take_back(old),
             Effect::Phy(old) => self.phy.take_back(old),
@@ -579,8 +585,10 @@ impl Adapter {
         ensures same { self.new ≡ self.old }
     {
         let cost = gone.cost();
-        if let Effect::Reset(kept) = gone.effect {
-            self.let_reset_go(kept);
+        match gone.effect {
+            Effect::Reset(kept) => self.let_reset_go(kept),
+            Effect::Extended(kept) => let_extended_go(kept),
+            _ => {}
         }
         cost
     }
@@ -608,6 +616,22 @@ impl Adapter {
         );
     }
 
+    /// Takes a step over a transmit descriptor of the extended format back.
+    #[inline(never)]
+    fn take_back_extended(&mut self, old: Box<ExtendedUndo>)
+        requires { EffectFits self.old (Extended (old_extended old.value)) }
+        ensures { self.new ≡ undo_effect self.old (Extended (old_extended old.value)) }
+    {
+        let ExtendedUndo {
+            head,
+            latches,
+            change,
+        } = Box::into_inner(old);
+        self.registers.restore(Reg::Tdh, head);
+        self.latches = latches;
+        self.unsend(change);
+    }
+
     /// Takes a reset back. The registers change places with those that it put aside, which are let go; the latches are
     /// copied.
     #[inline(never)]
@@ -618,6 +642,7 @@ impl Adapter {
         let before = &mut *old;
         std::mem::swap(&mut self.registers, &mut before.registers);
         self.latches = before.latches.copy();
+        self.offload = before.offload;
         let gathered = std::mem::replace(&mut before.gathered, TxUndo::Nothing);
         take_back(&mut self.gather, &mut self.wire, &mut self.memory, gathered);
         self.fifo.put_places_back(before.places);
@@ -681,6 +706,8 @@ impl Adapter {
         self.latches = Latches::new();
         before.places = self.fifo.empty_out();
         before.gathered = self.gather.clear();
+        before.offload = self.offload;
+        self.offload = Offload::none();
         kept
     }
 
@@ -700,6 +727,7 @@ impl Adapter {
             latches: Latches::new(),
             places: Places::none(),
             gathered: TxUndo::Nothing,
+            offload: Offload::none(),
         };
         Ok(Box::new(self.alloc, fresh)?)
     }
@@ -719,6 +747,11 @@ impl Adapter {
         Ok((Answer::Done, Record { latches, effect }))
     }
 }
+
+/// Lets what a step over a descriptor of the extended format changed go. It stands by itself, so that what drops records
+/// stays short.
+#[inline(never)]
+fn let_extended_go(_kept: Box<ExtendedUndo>) {}
 
 /// What a command in MDIC raises.
 fn command_cause(value: u32) -> u32

@@ -53,8 +53,51 @@ impl Adapter {
         self.dispose(frame, old)
     }
 
-    /// What becomes of a frame: the first test that fails drops it.
+    /// What becomes of a frame. It is compiled for each profile, so that what the second one does costs the first one
+    /// nothing.
+    #[inline(always)]
     fn dispose(&mut self, frame: &[u8], old: &mut OldOctets) -> Result<(Answer, Record), Refusal>
+        requires least { 14 ≤ length frame.now }
+        requires most { length frame.now ≤ 20_000 }
+        ensures ok { IfOk result (λ r.
+            BecameOf self.old frame.now (arrival (shows self.old) frame.now) self.new r.0 (undo_of r.1 old.new)) }
+        ensures keeps { IfOk result (λ r. KeepsFor r.1 old.old old.new) }
+        ensures err { IfErr result (LacksMemory (arrival (shows self.old) frame.now)) }
+        ensures same { OnErr result (self.new ≡ self.old) }
+        ensures saved { OnErr result (old.new ≡ old.old) }
+    {
+        match self.profile() {
+            Profile::Table => self.dispose_here(frame, old),
+            Profile::Adapter => self.dispose_apart(frame, old),
+        }
+    }
+
+    /// The same, compiled by itself.
+    #[inline(never)]
+    fn dispose_apart(
+        &mut self,
+        frame: &[u8],
+        old: &mut OldOctets,
+    ) -> Result<(Answer, Record), Refusal>
+        requires least { 14 ≤ length frame.now }
+        requires most { length frame.now ≤ 20_000 }
+        ensures ok { IfOk result (λ r.
+            BecameOf self.old frame.now (arrival (shows self.old) frame.now) self.new r.0 (undo_of r.1 old.new)) }
+        ensures keeps { IfOk result (λ r. KeepsFor r.1 old.old old.new) }
+        ensures err { IfErr result (LacksMemory (arrival (shows self.old) frame.now)) }
+        ensures same { OnErr result (self.new ≡ self.old) }
+        ensures saved { OnErr result (old.new ≡ old.old) }
+    {
+        self.dispose_here(frame, old)
+    }
+
+    /// What becomes of a frame: the first test that fails drops it. It is compiled where it is called.
+    #[inline(always)]
+    fn dispose_here(
+        &mut self,
+        frame: &[u8],
+        old: &mut OldOctets,
+    ) -> Result<(Answer, Record), Refusal>
         requires least { 14 ≤ length frame.now }
         requires most { length frame.now ≤ 20_000 }
         ensures ok { IfOk result (λ r.
@@ -74,6 +117,7 @@ impl Adapter {
     }
 
     /// What becomes of a frame by the verdict of the filters.
+    #[inline(always)]
     fn judge(&mut self, frame: &[u8], old: &mut OldOctets) -> Result<(Answer, Record), Refusal>
         requires least { 14 ≤ length frame.now }
         requires most { length frame.now ≤ 20_000 }
@@ -99,6 +143,7 @@ impl Adapter {
     }
 
     /// Stores an accepted frame, or misses it where the FIFO has no room.
+    #[inline(always)]
     fn admit(
         &mut self,
         frame: &[u8],
@@ -225,6 +270,7 @@ impl Adapter {
     }
 
     /// Stores a frame, and counts it.
+    #[inline(always)]
     fn accept(
         &mut self,
         frame: &[u8],
@@ -243,6 +289,7 @@ impl Adapter {
         ensures same { OnErr result (self.new ≡ self.old) }
         ensures saved { OnErr result (old.new ≡ old.old) }
     {
+        let profile = self.profile();
         let is_tagged = tagged(&self.registers, frame);
         let is_kept = self.keeps_sequence();
         let Ok(replaced) = store_kept(self.alloc, &mut self.fifo, frame, is_kept, is_tagged, old)
@@ -252,7 +299,6 @@ impl Adapter {
         let broadcasts = self.takes_broadcasts();
         let lacks = self.lacks_buffer();
         let octets = octets_of(frame);
-        let profile = self.profile();
         let latches = count_frame(&mut self.latches, profile, octets, kind, broadcasts, lacks);
         let effect = Effect::Arrival(replaced, old.place() as u32);
         Ok((Answer::Stored, Record { latches, effect }))

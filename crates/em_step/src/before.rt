@@ -9,8 +9,8 @@ ghost use Rattle.em_regs.specs.RegFile.{IsStored};
 ghost use Rattle.em_latch.specs.Latches.{IsLatched, is_latched};
 ghost use Rattle.em_step.specs.Access.{gives};
 ghost use Rattle.em_step.specs.Before.{LeavesFrom, LeavesUpTo, PutsBack, PutsBackGathered, PutsBackWindow, TakesOffWire};
-ghost use Rattle.em_step.specs.Before.{WroteOnly, frames_before, gathered_before, has_sent, written};
-ghost use Rattle.em_step.specs.Before.{latched_before, link_before, next_octet, octets_before, register_before};
+ghost use Rattle.em_step.specs.Before.{WroteOnly, frames_before, frames_sent, gathered_before, written};
+ghost use Rattle.em_step.specs.Before.{latch_before, latched_before, link_before, next_octet, octets_before, register_before};
 ghost use Rattle.em_step.specs.Before.{mdic_before, phy_word_before, pins_before, status_before, stored_before};
 ghost use Rattle.em_step.specs.Undo.{IsPlaced, held, past_of, word};
 
@@ -87,6 +87,7 @@ impl<'a> Past<'a> {
             Effect::Nothing | Effect::Octets { .. } | Effect::Arrival(..) => self.latched_end(),
             Effect::RxStep { .. } => LATCHED_END,
             Effect::TxStep(..) => LATCHED_END,
+            Effect::Extended(_) => LATCHED_END,
             Effect::Register(old) if is_of(old, known) => self.latched_end(),
             Effect::Register(_)
             | Effect::Link(_)
@@ -163,13 +164,13 @@ impl<'a> Past<'a> {
         self.gather_told(gathered, last)
     }
 
-    /// Whether the event put a frame on the wire, which comes off when it is taken back.
+    /// How many frames the event put on the wire, which come off when it is taken back.
     #[inline(always)]
-    pub fn takes_off_wire(&self) -> bool
-        ensures value { result ≡ has_sent self.now.effect }
+    pub fn takes_off_wire(&self) -> usize
+        ensures value { result ≡ frames_sent self.now.effect }
         ensures before { TakesOffWire self.now result }
     {
-        self.has_sent()
+        self.frames_sent()
     }
 
     /// How many frames were sent before the event, where `now` are sent behind it.
@@ -177,11 +178,7 @@ impl<'a> Past<'a> {
     pub fn sent_before(&self, now: usize) -> usize
         ensures { PutsBack self.now (λ s. length s.wire) now result }
     {
-        if self.takes_off_wire() {
-            now.saturating_sub(1)
-        } else {
-            now
-        }
+        now.saturating_sub(self.takes_off_wire())
     }
 
     /// An offset from which on the event changed no interrupt register and no counter.
@@ -218,9 +215,19 @@ impl<'a> Past<'a> {
         requires { IsLatched reg }
         ensures { result ≡ latched_before self.now.latches self.now.effect reg now }
     {
-        if let Effect::Reset(old) = &self.record.effect {
-            return old.latches.look(reg);
+        match &self.record.effect {
+            Effect::Reset(old) => old.latches.look(reg),
+            Effect::Extended(old) => old.latches.look(reg),
+            _ => self.latch_told(reg, now),
         }
+    }
+
+    /// The same by the words of the latches that grew.
+    #[inline(always)]
+    fn latch_told(&self, reg: Reg, now: u32) -> u32
+        requires { IsLatched reg }
+        ensures { result ≡ latch_before self.now.latches reg now }
+    {
         match reg {
             Reg::Ics | Reg::Imc => now,
             _ => self.record.latches.before(reg, now),
@@ -240,6 +247,7 @@ impl<'a> Past<'a> {
                 head_before(reg, Reg::Rdh, head, now)
             }
             Effect::TxStep(_, head) => head_before(reg, Reg::Tdh, *head, now),
+            Effect::Extended(old) => head_before(reg, Reg::Tdh, old.head, now),
             Effect::Reset(old) => old.registers.look(reg),
             Effect::Nothing
             | Effect::Octets { .. }
@@ -317,6 +325,7 @@ impl<'a> Past<'a> {
                 window,
             ),
             Effect::TxStep(old, _) => old.lay_over(addr, window),
+            Effect::Extended(old) => old.change.lay_over(addr, window),
             Effect::Reset(old) => old.gathered.lay_over(addr, window),
             _ => {}
         }
@@ -339,6 +348,7 @@ impl<'a> Past<'a> {
                 rest,
             } => piece_of(*high, *word, *low, *end, *rest).next_octet(addr),
             Effect::TxStep(old, _) => old.next_octet(addr),
+            Effect::Extended(old) => old.change.next_octet(addr),
             Effect::Reset(old) => old.gathered.next_octet(addr),
             _ => None,
         }
@@ -365,6 +375,7 @@ impl<'a> Past<'a> {
                 rest,
             } => piece_of(*high, *word, *low, *end, *rest).written(),
             Effect::TxStep(old, _) => [old.written(), Range::none()],
+            Effect::Extended(old) => [old.change.written(), Range::none()],
             Effect::Reset(old) => old.gathered.written(),
             _ => [Range::none(), Range::none()],
         }
@@ -406,20 +417,22 @@ impl<'a> Past<'a> {
     {
         match &self.record.effect {
             Effect::TxStep(old, _) => old.gathered_before(gathered, last),
+            Effect::Extended(old) => old.change.gathered_before(gathered),
             Effect::Reset(old) => old.gathered.gathered_before(gathered, last),
             _ => Ok(()),
         }
     }
 
-    /// Whether a frame was sent.
+    /// How many frames were sent.
     #[inline(always)]
-    fn has_sent(&self) -> bool
-        ensures { result ≡ has_sent self.now.effect }
+    fn frames_sent(&self) -> usize
+        ensures { result ≡ frames_sent self.now.effect }
     {
         match &self.record.effect {
-            Effect::TxStep(old, _) => old.has_sent(),
-            Effect::Reset(old) => old.gathered.has_sent(),
-            _ => false,
+            Effect::TxStep(old, _) => usize::from(old.has_sent()),
+            Effect::Extended(old) => old.change.frames(),
+            Effect::Reset(old) => usize::from(old.gathered.has_sent()),
+            _ => 0,
         }
     }
 }

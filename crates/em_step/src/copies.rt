@@ -1,9 +1,9 @@
 //! Records that are the same once more, in memory of their own. Most of them take none: only what a reset put aside does.
 ghost use Rattle.std.specs.Prelude.{◌≡◌, IfOk};
 ghost use Rattle.em_step.specs.Copies.{SameEffect, SameRecord};
-ghost use Rattle.em_step.specs.Undo.{aside};
+ghost use Rattle.em_step.specs.Undo.{aside, old_extended};
 
-use crate::undo::{BeforeReset, Effect, Record};
+use crate::undo::{BeforeReset, Effect, ExtendedUndo, Record};
 use std::alloc::{AllocError, Global};
 
 impl Record {
@@ -53,10 +53,24 @@ impl Effect {
                 rest: *rest,
             },
             Effect::TxStep(old, head) => Effect::TxStep(old.copy(), *head),
+            Effect::Extended(old) => Effect::Extended(Box::new(alloc, old.copy()?)?),
             Effect::Link(old) => Effect::Link(*old),
             Effect::Pins(old, told) => Effect::Pins(*old, *told),
             Effect::Phy(old) => Effect::Phy(old.copy()),
             Effect::Reset(old) => Effect::Reset(Box::new(alloc, old.copy(alloc)?)?),
+        })
+    }
+}
+
+impl ExtendedUndo {
+    /// The same once more.
+    fn copy(&self) -> Result<ExtendedUndo, AllocError>
+        ensures { IfOk result (λ copy. old_extended copy ≡ old_extended self.now) }
+    {
+        Ok(ExtendedUndo {
+            head: self.head,
+            latches: self.latches.copy(),
+            change: self.change.copy()?,
         })
     }
 }
@@ -73,6 +87,7 @@ impl BeforeReset {
             latches: self.latches.copy(),
             places: self.places,
             gathered,
+            offload: self.offload,
         })
     }
 }

@@ -1,5 +1,5 @@
 //! How the latches count frames that arrive and frames that are sent (manual, chapter on statistics registers).
-ghost use Rattle.std.specs.Prelude.{◌≡◌, ◌+◌, ◌<◌, ◌≤◌};
+ghost use Rattle.std.specs.Prelude.{◌≡◌, ◌+◌, ◌<◌, ◌≤◌, drop, length, min};
 ghost use Rattle.em_regs.specs.Storage.{Registers};
 ghost use Rattle.em_latch.specs.Latches.{Reverses, after_raise};
 ghost use Rattle.em_latch.specs.Counter.{octets_for_count};
@@ -9,11 +9,16 @@ ghost use Rattle.em_step.specs.Counts.{after_sent_count, after_sent_kind, after_
 ghost use Rattle.em_step.specs.Counts.{after_total, after_total_received, after_total_sent};
 ghost use Rattle.em_step.specs.Counts.{class_of, sent_counter, stored_counter};
 ghost use Rattle.em_latch.specs.Counter.{after_count};
+ghost use Rattle.em_step.specs.Engines as engines;
+ghost use Rattle.em_step.specs.Engines.{counted_all};
+ghost use Rattle.em_tx.specs.Extended.{AreShort};
 
 use bitflags::Flags;
 use em_address::Kind;
+use em_filter::CHECK_OCTETS;
 use em_latch::{Counter, LatchUndo, Latches};
 use em_regs::{Causes, Profile};
+use em_tx::{Wire, kind_sent};
 
 /// The fewest octets on the wire of a frame that is counted by its size: those of the first class.
 const LEAST: u32 = 64;
@@ -109,6 +114,7 @@ pub(crate) fn count_miss(
 }
 
 /// Counts a frame that is stored, of so many octets on the wire.
+#[inline(always)]
 pub(crate) fn count_frame(
     latches: &mut Latches,
     profile: Profile,
@@ -229,6 +235,7 @@ fn count_buffer(latches: &mut Latches, lacks_buffer: bool, undo: &mut LatchUndo)
 }
 
 /// Counts a frame that was sent, of so many octets on the wire, and raises causes.
+#[inline(always)]
 pub(crate) fn count_sent(
     latches: &mut Latches,
     profile: Profile,
@@ -241,10 +248,22 @@ pub(crate) fn count_sent(
     ensures state { latches.new ≡ after_raise (after_sent_count profile octets kind latches.old) causes }
     ensures reverses { Reverses latches.old latches.new result }
 {
+    let mut undo = count_sent_frame(latches, profile, octets, kind);
+    latches.raise_into(causes, &mut undo);
+    undo
+}
+
+/// Counts a frame that was sent, of so many octets on the wire.
+#[inline(always)]
+fn count_sent_frame(latches: &mut Latches, profile: Profile, octets: u32, kind: Kind) -> LatchUndo
+    requires { octets < 65_536 }
+    ensures state { latches.new ≡ after_sent_count profile octets kind latches.old }
+    ensures octets { octets_of result ≤ 12 }
+    ensures reverses { Reverses latches.old latches.new result }
+{
     let mut undo = count_total(latches, profile, Counter::Tpt, Counter::Tot, octets);
     count_sent_sizes(latches, octets, &mut undo);
     count_sent_kind(latches, kind, &mut undo);
-    latches.raise_into(causes, &mut undo);
     undo
 }
 
@@ -276,4 +295,32 @@ fn count_sent_kind(latches: &mut Latches, kind: Kind, undo: &mut LatchUndo)
         Kind::Multicast => latches.count_into(Counter::Mptc, 1, undo),
         Kind::Unicast => {}
     }
+}
+
+/// Counts the frames that were sent from one on, and gives how many octets they have, 2^32 less one at most.
+pub(crate) fn count_all_sent(
+    latches: &mut Latches,
+    profile: Profile,
+    wire: &Wire,
+    from: usize,
+) -> u32
+    requires { AreShort (drop from wire.now) }
+    ensures state { latches.new ≡ counted_all profile (drop from wire.now) latches.old }
+    ensures octets { result ≡ min (engines.octets_of (drop from wire.now)) 0xFFFF_FFFF }
+{
+    let mut octets = 0u32;
+    for index in from..wire.len() {
+        let Some(frame) = wire.frame(index) else {
+            unreachable!();
+        };
+        let len = frame.len() as u32;
+        octets = octets.saturating_add(len);
+        let _ = count_sent_frame(
+            latches,
+            profile,
+            len + CHECK_OCTETS as u32,
+            kind_sent(frame),
+        );
+    }
+    octets
 }

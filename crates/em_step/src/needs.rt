@@ -7,7 +7,7 @@ ghost use Rattle.em_step.specs.Needs.{rx_needs, tx_needs};
 
 use crate::adapter::Adapter;
 use em_mem::Needs;
-use em_tx::needs;
+use em_tx::{needs, needs_extended};
 
 impl Adapter {
     /// What the next step of the receive engine reads of guest memory, and what it writes there, by the octets as they
@@ -28,6 +28,10 @@ impl Adapter {
         ensures reads { AreHeld (shows self.now).base (shows self.now).memory result.reads }
         ensures writes { AreHeld (shows self.now).base (shows self.now).memory result.writes }
     {
-        needs(&self.gather, &self.memory, &self.tx_control())
+        let control = self.tx_control();
+        if self.has_extended() {
+            return needs_extended(&self.gather, &self.offload, &self.memory, &control);
+        }
+        needs(&self.gather, &self.memory, &control)
     }
 }

@@ -7,6 +7,7 @@ use crate::adapter::Adapter;
 use em_eeprom::Eeprom;
 use em_latch::Latches;
 use em_mem::{GuestMemory, Spares};
+use em_offload::Offload;
 use em_phy::Phy;
 use em_pins::Pins;
 use em_regs::{Profile, RegFile};
@@ -39,6 +40,8 @@ pub struct Parts {
     pub pins: Pins,
     /// The PHY.
     pub phy: Phy,
+    /// The contexts that were loaded.
+    pub offload: Offload,
 }
 
 impl Adapter {
@@ -58,6 +61,7 @@ impl Adapter {
             link,
             pins,
             phy,
+            offload,
         } = parts;
         let registers = Box::new(alloc, registers)?;
         let spare_resets = Spares::new(alloc)?;
@@ -74,6 +78,7 @@ impl Adapter {
             profile,
             pins,
             phy,
+            offload,
             spare_resets,
         })
     }
@@ -126,5 +131,12 @@ impl Adapter {
         ensures { result.now ≡ self.now.phy }
     {
         &self.phy
+    }
+
+    /// The contexts that were loaded, and which checksums the frame gets that is gathered.
+    pub fn offload(&self) -> &Offload
+        ensures { result.now ≡ self.now.offload }
+    {
+        &self.offload
     }
 }

@@ -1,14 +1,17 @@
 //! The rings as the registers set them up.
-ghost use Rattle.std.specs.Prelude.{◌≡◌, ◌<◌, ◌^◌};
+ghost use Rattle.std.specs.Prelude.{◌≡◌, ◌<◌, ◌^◌, IsTrue};
 ghost use Rattle.em_regs.specs.Setup.{rx_setup, tx_setup};
 ghost use Rattle.em_step.specs.Cells.{shows};
-ghost use Rattle.em_step.specs.Engines.{comes_inexact, is_halted, rx_control, tx_control};
+ghost use Rattle.em_mem.specs.Memory.{IsHeld};
+ghost use Rattle.em_tx.specs.Extended.{is_extended};
+ghost use Rattle.em_tx.specs.Ring as ring;
+ghost use Rattle.em_step.specs.Engines.{comes_inexact, has_extended, is_halted, rx_control, tx_control};
 
 use crate::adapter::Adapter;
 use em_filter::is_inexact;
 use em_regs::{Profile, RxSetup, TxSetup};
 use em_rx::RxControl;
-use em_tx::TxControl;
+use em_tx::{TxControl, is_extended};
 
 impl Adapter {
     /// The receive ring.
@@ -71,6 +74,29 @@ impl Adapter {
             profile: self.profile(),
             halted: self.is_halted(),
         }
+    }
+
+    /// The first transmit descriptor is the adapter's, lies in memory, and has the extended format: in the second profile
+    /// alone, since the first one refuses it.
+    #[inline(always)]
+    pub(crate) fn has_extended(&self) -> bool
+        ensures value { result ≡ has_extended (shows self.now) }
+        ensures held { IsTrue result → IsHeld self.now.memory (ring.place (tx_setup (shows self.now).registers)) 16 }
+        ensures head { IsTrue result
+            → (tx_setup (shows self.now).registers).head < (tx_setup (shows self.now).registers).count }
+    {
+        matches!(self.profile(), Profile::Adapter) && self.finds_extended()
+    }
+
+    /// The same, whatever the profile.
+    #[inline(never)]
+    fn finds_extended(&self) -> bool
+        ensures value { result ≡ is_extended (tx_control (shows self.now)) self.now.memory.base self.now.memory.octets }
+        ensures held { IsTrue result → IsHeld self.now.memory (ring.place (tx_setup (shows self.now).registers)) 16 }
+        ensures head { IsTrue result
+            → (tx_setup (shows self.now).registers).head < (tx_setup (shows self.now).registers).count }
+    {
+        is_extended(&self.memory, &self.tx_control())
     }
 
     /// Nothing is sent: in the second profile while the link is down, unless RCTL.LBM gives back what is sent (manual,

@@ -1,16 +1,17 @@
 //! What takes an event back.
 ghost use Rattle.std.specs.Prelude.{◌≡◌, ◌≤◌, []};
 ghost use Rattle.em_step.specs.Cost.{cost_by, cost_of, least_cost, most_cost};
-ghost use Rattle.em_step.specs.Undo.{held};
+ghost use Rattle.em_step.specs.Undo.{held, old_extended};
 
 use crate::packed::len_of;
 use em_latch::{LatchUndo, Latches};
 use em_mem::OldOctets;
+use em_offload::Offload;
 use em_phy::PhyUndo;
 use em_pins::PinsUndo;
 use em_regs::{RegFile, RegUndo};
 use em_rx::{OldFrame, Places};
-use em_tx::{Change, TxUndo};
+use em_tx::{BeforeExtended, Change, TxUndo};
 use std::marker::Model;
 use std::mem::size_of;
 
@@ -62,6 +63,8 @@ pub enum Effect {
     },
     /// What a step of the transmit engine gathered, sent and overwrote in guest memory, and TDH.
     TxStep(Change, u32),
+    /// What a step over a transmit descriptor of the extended format changed.
+    Extended(Box<ExtendedUndo>),
     /// The link.
     Link(bool),
     /// The pins of EECD, and what a read of it gave.
@@ -72,14 +75,53 @@ pub enum Effect {
     Reset(Box<BeforeReset>),
 }
 
-/// What a reset put aside: the registers and latches as they were, where the FIFO's frames lay, and
-/// the gathered octets.
+/// What a step over a transmit descriptor of the extended format changed: TDH, the latches as they were, and what em_tx
+/// tells. It may count many frames, so it keeps all words of the latches.
+#[derive(Drop)]
+pub struct ExtendedUndo {
+    pub head: u32,
+    pub latches: Latches,
+    pub change: BeforeExtended,
+}
+
+/// What a reset put aside: the registers and latches as they were, where the FIFO's frames lay, the gathered octets, and
+/// the contexts that were loaded.
 #[derive(Drop)]
 pub struct BeforeReset {
     pub registers: Box<RegFile>,
     pub latches: Latches,
     pub places: Places,
     pub gathered: TxUndo,
+    pub offload: Offload,
+}
+
+impl ExtendedUndo {
+    /// A record of no change, in whose place one is put.
+    pub(crate) fn none() -> ExtendedUndo {
+        ExtendedUndo {
+            head: 0,
+            latches: Latches::new(),
+            change: BeforeExtended::none(),
+        }
+    }
+
+    /// Puts what a step changed in a place that was made for it.
+    pub(crate) fn put_in(
+        place: Box<ExtendedUndo>,
+        head: u32,
+        latches: Latches,
+        change: BeforeExtended,
+    ) -> Box<ExtendedUndo>
+        ensures { old_extended result.value ≡ record { head = head; latches = latches; change = change } }
+    {
+        let mut undo = place;
+        *undo = ExtendedUndo {
+            head,
+            latches,
+            change,
+        };
+        undo
+    }
 }
 
 impl Record {
@@ -121,6 +163,7 @@ impl Record {
             Effect::Arrival(frame, _) => LEAST_COST + frame.len() as u32,
             Effect::RxStep { word, .. } => LEAST_COST + (u32::from(len_of(*word)) + 8),
             Effect::TxStep(change, _) => LEAST_COST + change.cost(),
+            Effect::Extended(old) => LEAST_COST + old.change.cost(),
             Effect::Reset(_) => MOST_COST,
         }
     }

@@ -2,7 +2,7 @@
 use Rattle.std.proofs.Common.{◌≡◌, ◌≢◌, ◌∙◌, arith, ◌==◌, ◌&&◌, ◌||◌, ℕ, ◌+◌, ◌*◌, ◌/◌, ◌%◌, ◌^◌, Bool, true, false, not}
 use Rattle.std.proofs.Common.{List, [], ◌∷◌, length, refl, sym, ap, subst, Option, Some, None, Ok, Err}
 use Rattle.std.proofs.Common.{Result, cond, if◌then◌else◌, slice_index, nat_le, nat_lt}
-use Rattle.std.specs.Prelude.{bit_and}
+use Rattle.std.specs.Prelude.{bit_and, drop}
 use Rattle.std.specs.FinMap.{insert}
 use Rattle.std.specs.Ordering.{nat_cmp, eq_by_cmp}
 use Rattle.em_mem.specs.Memory as memory
@@ -40,8 +40,12 @@ use Rattle.em_rx.specs.declared.step.RxAnswer.TheVariants as rx_answer
 use Rattle.em_rx.specs.declared.refusal.RxRefusal.{RxRefusal}
 use Rattle.em_tx.specs.Cells.{Shown}
 use Rattle.em_tx.specs.Engine as tx
+use Rattle.em_tx.specs.Extended.{Both, is_extended, raw, transmit_extended}
+use Rattle.em_tx.specs.Ring as ring
 use Rattle.em_tx.specs.declared.answer.TxAnswer.{TxAnswer}
 use Rattle.em_tx.specs.declared.answer.TxAnswer.TheVariants as tx_answer
+use Rattle.em_tx.specs.declared.control.TxControl.{TxControl}
+use Rattle.em_tx.specs.declared.extended.Did.{Did}
 use Rattle.em_tx.specs.declared.refusal.TxRefusal.{TxRefusal}
 use Rattle.em_step.specs.Access.{after_eeprom_read, after_link, after_store, after_write, after_write_by, differ}
 use Rattle.em_step.specs.Access.{eerd_address, is_reset_by, reset}
@@ -52,7 +56,8 @@ use Rattle.em_step.specs.Counts.{after_buffer_count, after_frame_count, after_mi
 use Rattle.em_filter.proofs.InexactLaws.{AgreeInExact, source_same, table_same}
 use Rattle.em_step.proofs.InexactLaws.{comes_same}
 use Rattle.em_step.specs.Engines.{after_rx_answer, after_tx_answer, rx_control, rx_step, rx_stepped, sending, tx_step, tx_stepped}
-use Rattle.em_step.specs.Engines.{tx_control, with_outcome, with_shown}
+use Rattle.em_step.specs.Engines.{after_descriptor, answer_of_did, extended_stepped, has_extended, sending_both, transmitted}
+use Rattle.em_step.specs.Engines.{tx_control, tx_refused, with_both, with_outcome, with_shown}
 use Rattle.em_step.specs.Event.{Event, reads, writes, pokes, arrives, links, receives, transmits}
 use Rattle.em_step_laws.specs.Inert.{AgreeInRules, Alike, IsNoRead}
 use Rattle.em_step.specs.State.{State, is_adapter}
@@ -60,6 +65,7 @@ use Rattle.em_step.specs.Step.{at_none, at_register, step}
 use Rattle.em_step.specs.declared.event.Answer.{Answer}
 use Rattle.em_step.specs.declared.event.Answer.TheVariants.{Done, Stored, Dropped}
 use Rattle.em_step.specs.declared.event.Reason.TheVariants.{Down, Disabled, Missed}
+use Rattle.em_step.specs.declared.refusal.Refusal.{Refusal}
 use Rattle.em_step.specs.declared.refusal.Refusal.TheVariants.{NoRegister, Range, Length}
 
 -- the state with other registers
@@ -441,18 +447,60 @@ tx_by : (s : State) (n : Registers) (r : Result (TxAnswer × Shown) TxRefusal) �
 tx_by s n (Ok r) h = tx_answered (with_shown s r.1) n r.0 h
 tx_by s n (Err refusal) h = refl
 
+-- what a step over a descriptor of the extended format leaves, by what the engine goes by
+abbrev done_by : TxControl → State → Did → Both → Answer × State
+done_by q s d b = (
+  answer_of_did q.setup.head d (drop (length s.wire) b.shown.wire),
+  after_descriptor (with_both s b) (ring.next q.setup) (ring.causes q.setup (raw q s.memory)),
+)
+
+abbrev stepped_by : TxControl → State → Result (Did × Both) TxRefusal → Result (Answer × State) Refusal
+stepped_by q s (Ok r) = Ok (done_by q s r.0 r.1)
+stepped_by q s (Err refusal) = Err (tx_refused refusal)
+
+stepped_is : (s : State) (x : Result (Did × Both) TxRefusal) → extended_stepped s x ≡ stepped_by (tx_control s) s x
+stepped_is s (Ok r) = refl
+stepped_is s (Err refusal) = refl
+
+abbrev format_by : TxControl → State → Bool
+format_by q s = is_adapter s.profile && is_extended q s.base s.memory
+
+abbrev sent_by : Bool → TxControl → State → Result (Answer × State) Refusal
+sent_by extended q s =
+    if extended then stepped_by q s (transmit_extended q s.base (sending_both s))
+    else tx_stepped s (tx.transmit q s.base (sending s))
+
+step_is : (s : State) → tx_step s ≡ sent_by (format_by (tx_control s) s) (tx_control s) s
+step_is s =
+    ap (λ (x : Result (Answer × State) Refusal). if has_extended s then x else tx_stepped s (transmitted s))
+    (stepped_is s (transmit_extended (tx_control s) s.base (sending_both s)))
+
+did_by : (s : State) (n : Registers) (q : TxControl) (r : Result (Did × Both) TxRefusal) → AgreeInRules s.registers n
+    → Alike (stepped_by q s r) (stepped_by q (with_registers s n) r)
+did_by s n q (Ok r) h =
+    let next : ℕ = ring.next q.setup in
+    (refl, (registers.put n Tdh next, refl, agree_on s.registers n (offset_of Tdh) (bit_and next (mask_of Tdh)) h))
+did_by s n q (Err refusal) h = refl
+
+sent_alike : (s : State) (n : Registers) (q : TxControl) (extended : Bool) → AgreeInRules s.registers n
+    → Alike (sent_by extended q s) (sent_by extended q (with_registers s n))
+sent_alike s n q true h = did_by s n q (transmit_extended q s.base (sending_both s)) h
+sent_alike s n q false h = tx_by s n (tx.transmit q s.base (sending s)) h
+
 transmit_alike : (s : State) (n : Registers) → AgreeInRules s.registers n
     → Alike (tx_step s) (tx_step (with_registers s n))
 transmit_alike s n h =
     let t : State = with_registers s n in
-    let control : tx_control t ≡ tx_control s = λ i. record {
+    let q : TxControl = tx_control s in
+    let control : tx_control t ≡ q = λ i. record {
       setup = tx_same s.registers n h i;
       profile = s.profile;
       halted = is_adapter s.profile && (not s.link && not (not (h.lbm i == 0)));
     } in
-    let same : tx_step t ≡ tx_stepped t (tx.transmit (tx_control s) s.base (sending s))
-    = ap (λ q. tx_stepped t (tx.transmit q s.base (sending s))) control in
-    subst (λ x. Alike (tx_step s) x) (sym same) (tx_by s n (tx.transmit (tx_control s) s.base (sending s)) h)
+    let same : tx_step t ≡ sent_by (format_by q s) q t
+    = step_is t ∙ ap (λ (p : TxControl). sent_by (format_by p t) p t) control in
+    subst (λ x. Alike x (tx_step t)) (sym (step_is s))
+    (subst (λ x. Alike (sent_by (format_by q s) q s) x) (sym same) (sent_alike s n q (format_by q s) h))
 
 -- ---- any event
 

@@ -14,7 +14,7 @@ use Rattle.em_regs.specs.declared.profile.Profile.TheVariants.{Table, Adapter}
 use Rattle.em_regs.specs.Table.{answers_at, mask_in, offset_of, reg_of, row_of}
 use Rattle.em_regs.specs.RegFile as registers
 use Rattle.em_regs.specs.RegFile.{put, put_in, put_eerd, eerd_value, left_at}
-use Rattle.em_regs.specs.Setup.{rx_setup, value_of}
+use Rattle.em_regs.specs.Setup.{rx_setup, tx_setup, value_of}
 use Rattle.em_regs.specs.Storage.{Registers}
 use Rattle.em_regs.proofs.Entries.{at-insert_other}
 use Rattle.em_latch.specs.Latches.{is_latched}
@@ -28,8 +28,11 @@ use Rattle.em_rx.specs.declared.step.RxAnswer.{RxAnswer}
 use Rattle.em_rx.specs.declared.step.RxAnswer.TheVariants as rx_answer
 use Rattle.em_rx.specs.declared.refusal.RxRefusal.{RxRefusal}
 use Rattle.em_tx.specs.Cells.{Shown}
+use Rattle.em_tx.specs.Extended.{Both, transmit_extended}
+use Rattle.em_tx.specs.Ring as ring
 use Rattle.em_tx.specs.declared.answer.TxAnswer.{TxAnswer}
 use Rattle.em_tx.specs.declared.answer.TxAnswer.TheVariants as tx_answer
+use Rattle.em_tx.specs.declared.extended.Did.{Did}
 use Rattle.em_tx.specs.declared.refusal.TxRefusal.{TxRefusal}
 use Rattle.em_step.specs.Access.{after_eeprom_read, after_link, after_read, after_store, after_write, after_write_by}
 use Rattle.em_step.specs.Access.{differ, eerd_address, gives, has, is_reset_by, reset}
@@ -37,6 +40,7 @@ use Rattle.em_step.specs.Arrival.{after_accept, after_arrived, after_miss, arriv
 use Rattle.em_step.specs.Arrival.{lacks_room}
 use Rattle.em_step.specs.Cells.{fresh_as, shows}
 use Rattle.em_step.specs.Engines.{after_rx_answer, after_tx_answer, received, rx_stepped, transmitted}
+use Rattle.em_step.specs.Engines.{after_did, extended_step, extended_stepped, has_extended, sending_both, tx_control}
 use Rattle.em_step.specs.Engines.{tx_stepped, with_outcome, with_shown}
 use Rattle.em_step.specs.Event.{Event, reads, writes, pokes, arrives, links, receives, transmits}
 use Rattle.em_step_laws.specs.Reached.{ArePerformed, IsReached}
@@ -174,6 +178,18 @@ tx_keeps s (Ok y) r few is =
     subst Keeps same (tx_answer_keeps (with_shown s y.1) y.0 few)
 tx_keeps s (Err refusal) r few is = cc
 
+did_keeps : (s : State) (x : Result (Did × Both) TxRefusal) (r : Answer × State) → KeepsLength s.registers
+    → extended_stepped s x ≡ Ok r → Keeps r
+did_keeps s (Ok y) r few is =
+    let same : after_did s y.0 y.1 ≡ r = cc in
+    subst Keeps same (put_keeps s.profile s.registers Tdh (ring.next (tx_setup s.registers)) few)
+did_keeps s (Err refusal) r few is = cc
+
+sending_keeps : (s : State) (extended : Bool) (r : Answer × State) → KeepsLength s.registers
+    → (if extended then extended_step s else tx_stepped s (transmitted s)) ≡ Ok r → Keeps r
+sending_keeps s true r few is = did_keeps s (transmit_extended (tx_control s) s.base (sending_both s)) r few is
+sending_keeps s false r few is = tx_keeps s (transmitted s) r few is
+
 event_keeps : (s : State) (e : Event) (r : Answer × State) → KeepsLength s.registers → step s e ≡ Ok r → Keeps r
 event_keeps s (reads o) r few is =
     access_keeps (reg_of s.profile o) (λ reg. (Value (gives s reg), after_read s reg)) s o (Value 0) r few
@@ -190,7 +206,7 @@ event_keeps s (links up) r few is =
     let same : (Done, after_link s up) ≡ r = cc in
     subst Keeps same (either_keeps (differ up s.link) _ s few few)
 event_keeps s receives r few is = rx_keeps s (received s) r few is
-event_keeps s transmits r few is = tx_keeps s (transmitted s) r few is
+event_keeps s transmits r few is = sending_keeps s (has_extended s) r few is
 
 -- ---- states
 performed_keeps : (events : List Event) (s t : State) → KeepsLength s.registers → ArePerformed events s t

@@ -1,7 +1,7 @@
 -- A machine's octets are those of no other machine.
 use Rattle.std.proofs.Common.{◌≡◌, ℕ, ◌+◌, ◌*◌, ◌/◌, ◌%◌, ◌<◌, ◌≤◌, ◌^◌, Bool, true, false}
 use Rattle.std.proofs.Common.{List, [], ◌∷◌, ◌++◌, length, take, drop, get_or}
-use Rattle.std.proofs.Common.{refl, sym, ap, ◌∙◌, arith, append-nil, length-append, length-drop, take-append-drop}
+use Rattle.std.proofs.Common.{if◌then◌else◌, refl, sym, ap, ◌∙◌, arith, append_assoc, append-nil, length-append, length-drop, take-append-drop}
 use Rattle.std.specs.List.{sum_by}
 use Rattle.std.proofs.Math.Nat.{pow-le-pow_right}
 use Rattle.std.proofs.lemmas.List.Sums.{sum_by-cons}
@@ -14,13 +14,15 @@ use Rattle.em_regs.specs.declared.profile.Profile.{Profile}
 use Rattle.em_regs.specs.declared.profile.Profile.TheVariants.{Table, Adapter}
 use Rattle.em_latch.specs.Storage as latch_table
 use Rattle.em_crc.specs.Crc.{crc32}
+use Rattle.em_offload.specs.declared.offload.Offload.{Offload}
+use Rattle.em_offload.specs.declared.sums.Sums.{Sums}
 use Rattle.em_pins.specs.Pins as pins
 use Rattle.em_rx.specs.Frame.{Frame}
 use Rattle.em_rx.specs.Fifo.{IsTakenOf}
 use Rattle.em_step.specs.State.{State}
 use Rattle.em_stored.specs.Form.{word, number, words, counted, listed, frame_form, pages_form, tag_number}
 use Rattle.em_stored.specs.Stored.{profile_number, link_number, size_of, single_numbers, register_words, latch_words}
-use Rattle.em_stored.specs.Stored.{lists, body, opened, measured, summed, stored}
+use Rattle.em_stored.specs.Stored.{lists, body, offload_form, opened, measured, summed, stored, sums_number}
 use Rattle.em_stored.specs.Machines.{AreBelow, IsMachine, IsTag}
 use Rattle.em_stored.proofs.OneLaws.{AreSame, IsCountable, same_front, same_back, length-word, length-number}
 use Rattle.em_stored.proofs.OneLaws.{word_tells, number_tells, counted_tells, flat_tells, listed_tells}
@@ -75,6 +77,36 @@ link_is_one false true e = absurd (omega arith)
 link_is_one true false e = absurd (omega arith)
 link_is_one true true e = refl
 
+flags_are_one : (a b c d : Bool) → (if a then 1 else 0) + (if b then 2 else 0) ≡ (if c then 1 else 0) + (if d then 2 else 0)
+    → (a ≡ c) × (b ≡ d)
+flags_are_one true true true true e = (refl, refl)
+flags_are_one true false true false e = (refl, refl)
+flags_are_one false true false true e = (refl, refl)
+flags_are_one false false false false e = (refl, refl)
+flags_are_one true true true false e = absurd (omega arith)
+flags_are_one true true false true e = absurd (omega arith)
+flags_are_one true true false false e = absurd (omega arith)
+flags_are_one true false true true e = absurd (omega arith)
+flags_are_one true false false true e = absurd (omega arith)
+flags_are_one true false false false e = absurd (omega arith)
+flags_are_one false true true true e = absurd (omega arith)
+flags_are_one false true true false e = absurd (omega arith)
+flags_are_one false true false false e = absurd (omega arith)
+flags_are_one false false true true e = absurd (omega arith)
+flags_are_one false false true false e = absurd (omega arith)
+flags_are_one false false false true e = absurd (omega arith)
+
+sums_are_one : (x y : Sums) → sums_number x ≡ sums_number y → x ≡ y
+sums_are_one x y e =
+    let flags = flags_are_one x.ip x.transport y.ip y.transport e in
+    λ i. record { ip = flags.0 i; transport = flags.1 i }
+
+flags_fit : (a b : Bool) → (if a then 1 else 0) + (if b then 2 else 0) < 2 ^ 32
+flags_fit true true = omega arith
+flags_fit true false = omega arith
+flags_fit false true = omega arith
+flags_fit false false = omega arith
+
 profile_fits : (p : Profile) → profile_number p < 2 ^ 32
 profile_fits Table = omega arith
 profile_fits Adapter = omega arith
@@ -87,6 +119,10 @@ taken_fits : (taken : ℕ) (frames : List Frame) → IsTakenOf taken frames
     → sum_by (λ (f : Frame). length f.octets) frames ≤ 49_152 → taken < 2 ^ 32
 taken_fits taken [] h room = omega arith
 taken_fits taken (f ∷ fs) h room = omega (arith, sum_by-cons (λ (f : Frame). length f.octets) f fs)
+
+-- which checksums a frame gets
+sums_fit : (s : Sums) → sums_number s < 2 ^ 32
+sums_fit s = flags_fit s.ip s.transport
 
 abbrev Fits : ℕ → Type 0
 Fits n = n < 2 ^ 32
@@ -163,6 +199,9 @@ from_wire s = listed counted s.wire ++ from_pages s
 abbrev from_fifo : State → List ℕ
 from_fifo s = listed frame_form s.fifo.frames ++ from_wire s
 
+abbrev from_offload : State → List ℕ
+from_offload s = offload_form s.offload ++ from_fifo s
+
 abbrev from_latches : State → List ℕ
 from_latches s = words (latch_words s) ++ lists s
 
@@ -181,9 +220,36 @@ from_numbers budget s = words (single_numbers budget s) ++ from_phy s
 -- frames and memory are those of one state
 record SameLists (s t : State) : Type 0 where
   gathered : s.gathered ≡ t.gathered
+  offload : s.offload ≡ t.offload
   frames : s.fifo.frames ≡ t.fifo.frames
   wire : s.wire ≡ t.wire
   memory : drop s.base s.memory ≡ drop t.base t.memory
+
+-- the contexts, and which checksums the frame gets that is gathered
+offload_tells : (x y : Offload) (rest others : List ℕ) → length x.whole ≡ length y.whole
+    → length x.segments ≡ length y.segments → IsCountable (offload_form x ++ rest)
+    → offload_form x ++ rest ≡ offload_form y ++ others → (x ≡ y) × (rest ≡ others)
+offload_tells x y rest others whole_size segments_size few e =
+    let m : ℕ = sums_number x.sums in
+    let n : ℕ = sums_number y.sums in
+    let left : List ℕ = x.segments ++ word m in
+    let right : List ℕ = y.segments ++ word n in
+    let whole = same_front x.whole y.whole (left ++ rest) (right ++ others) whole_size
+    (sym (append_assoc x.whole left rest) ∙ e ∙ append_assoc y.whole right others) in
+    let segments = same_front x.segments y.segments (word m ++ rest) (word n ++ others) segments_size
+    (sym (append_assoc x.segments (word m) rest) ∙ whole.1 ∙ append_assoc y.segments (word n) others) in
+    let few_sums : IsCountable (word m ++ rest)
+    = omega (
+      arith,
+      few,
+      length-append (x.whole ++ left) rest,
+      length-append x.whole left,
+      length-append x.segments (word m),
+      length-append (word m) rest,
+    ) in
+    let sums = word_tells m n rest others (sums_fit x.sums) (sums_fit y.sums) few_sums segments.1 in
+    let same = sums_are_one x.sums y.sums sums.0 in
+    (λ i. record { whole = whole.0 i; segments = segments.0 i; sums = same i }, sums.1)
 
 frame_is_some : (f : Frame) → 1 ≤ length (frame_form f)
 frame_is_some f =
@@ -198,10 +264,13 @@ pages_of budget s m = omega (arith, length-drop s.base s.memory, m.end, m.range.
 lists_are_one : (b c : ℕ) (s t : State) → IsMachine b s → IsMachine c t → size_of s / 4096 ≡ size_of t / 4096
     → IsCountable (lists s) → lists s ≡ lists t → SameLists s t
 lists_are_one b c s t m n pages few e =
-    let gathered = counted_tells s.gathered t.gathered (from_fifo s) (from_fifo t) tt tt few e in
-    let few_frames = rest_is_countable (counted s.gathered) (from_fifo s) few in
+    let gathered = counted_tells s.gathered t.gathered (from_offload s) (from_offload t) tt tt few e in
+    let few_offload = rest_is_countable (counted s.gathered) (from_offload s) few in
+    let offload = offload_tells s.offload t.offload (from_fifo s) (from_fifo t) (m.whole ∙ sym n.whole)
+    (m.segments ∙ sym n.segments) few_offload gathered.1 in
+    let few_frames = rest_is_countable (offload_form s.offload) (from_fifo s) few_offload in
     let frames = listed_tells frame_form (λ f. IsTag f.tag) frame_tells frame_is_some s.fifo.frames t.fifo.frames
-    (from_wire s) (from_wire t) m.tags n.tags few_frames gathered.1 in
+    (from_wire s) (from_wire t) m.tags n.tags few_frames offload.1 in
     let few_sent = rest_is_countable (listed frame_form s.fifo.frames) (from_wire s) few_frames in
     let wire = listed_tells counted (λ _. Unit {0}) counted_tells counted_is_some s.wire t.wire (from_pages s)
     (from_pages t) (λ _ _ _. tt) (λ _ _ _. tt) few_sent frames.1 in
@@ -213,7 +282,13 @@ lists_are_one b c s t m n pages few e =
     ∙ sym (append-nil (pages_form (size_of s / 4096) (drop t.base t.memory))) in
     let memory = pages_tell (size_of s / 4096) (drop s.base s.memory) (drop t.base t.memory) [] [] (pages_of b s m) size
     same in
-    record { gathered = gathered.0; frames = frames.0; wire = wire.0; memory = memory.0 }
+    record {
+      gathered = gathered.0;
+      offload = offload.0;
+      frames = frames.0;
+      wire = wire.0;
+      memory = memory.0;
+    }
 
 -- the machines are one
 pub parts_are_one : (h b : ℕ) (s : State) (k c : ℕ) (t : State) → IsMachine b s → IsMachine c t → h < 2 ^ 64
@@ -262,6 +337,7 @@ parts_are_one h b s k c t m n h_fits k_fits few e =
     let pins_are = pins_are_one s.pins t.pins pins count bits falls in
     let frames = same.frames in
     let gathered = same.gathered in
+    let offload = same.offload in
     let wire = same.wire in
     let words = phy.0 in
     let rom = eeprom.0 in
@@ -279,6 +355,7 @@ parts_are_one h b s k c t m n h_fits k_fits few e =
       profile = profile i;
       pins = pins_are i;
       phy = record { mdic = mdic i; words = words i };
+      offload = offload i;
     } in
     (handed.0, budget, state)
 

@@ -37,5 +37,8 @@ pub record IsMachine (budget : ℕ) (s : State) : Type 0 where
   pub phy_words : AreBelow (2 ^ 16) s.phy.words
   pub mdic : s.phy.mdic < 2 ^ 32
   pub pins : IsState s.pins
+  -- a context has 16 octets
+  pub whole : length s.offload.whole ≡ 16
+  pub segments : length s.offload.segments ≡ 16
   pub fifo : IsFifo s.fifo
   pub tags : All (λ frame. IsTag frame.tag) s.fifo.frames

@@ -1,5 +1,5 @@
 -- A machine as it is stored.
-use Rattle.std.specs.Prelude.{ℕ, ◌+◌, ◌-◌, ◌/◌, Bool, true, false, List, [], ◌∷◌, ◌++◌, length, drop}
+use Rattle.std.specs.Prelude.{ℕ, ◌+◌, ◌-◌, ◌/◌, Bool, true, false, if◌then◌else◌, List, [], ◌∷◌, ◌++◌, length, drop}
 use Rattle.em_mem.specs.Memory.{page_size}
 use Rattle.em_regs.specs.declared.profile.Profile.{Profile}
 use Rattle.em_regs.specs.declared.profile.Profile.TheVariants.{Table, Adapter}
@@ -7,6 +7,8 @@ use Rattle.em_regs.specs.RegFile.{words_of}
 use Rattle.em_regs.specs.Storage as registers
 use Rattle.em_latch.specs.Storage as latches
 use Rattle.em_crc.specs.Crc.{crc32}
+use Rattle.em_offload.specs.declared.offload.Offload.{Offload}
+use Rattle.em_offload.specs.declared.sums.Sums.{Sums}
 use Rattle.em_step.specs.State.{State}
 use Rattle.em_stored.specs.Form.{word, number, words, counted, listed, frame_form, pages_form}
 
@@ -34,13 +36,21 @@ register_words s = words_of registers.offsets s.registers
 abbrev pub latch_words : State → List ℕ
 latch_words s = words_of latches.offsets s.latches
 
+-- which checksums a frame gets, as POPTS says it
+abbrev pub sums_number : Sums → ℕ
+sums_number s = (if s.ip then 1 else 0) + (if s.transport then 2 else 0)
+
+-- the two contexts, of 16 octets each, and which checksums the frame gets that is gathered
+abbrev pub offload_form : Offload → List ℕ
+offload_form o = o.whole ++ (o.segments ++ word (sums_number o.sums))
+
 -- ---- what a machine consists of, one part behind another
 
--- frames and memory
+-- frames, contexts and memory
 abbrev pub lists : State → List ℕ
 lists s =
-    counted s.gathered ++ (listed frame_form s.fifo.frames ++ (listed counted s.wire
-    ++ pages_form (size_of s / page_size) (drop s.base s.memory)))
+    counted s.gathered ++ (offload_form s.offload ++ (listed frame_form s.fifo.frames ++ (listed counted s.wire
+    ++ pages_form (size_of s / page_size) (drop s.base s.memory))))
 
 -- all of them, behind how many of the frames that were sent its caller has handed over
 abbrev pub body : ℕ → ℕ → State → List ℕ

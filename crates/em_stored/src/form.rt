@@ -21,6 +21,12 @@ pub(crate) const BACK: usize = NUMBER + WORD;
 /// How many single numbers a machine has.
 pub(crate) const SINGLE_NUMBERS: usize = 11;
 
+/// How many octets a context has.
+pub(crate) const CONTEXT_OCTETS: usize = 16;
+
+/// The number of the checksums that a frame gets is below this.
+pub(crate) const SUMS_RANGE: u32 = 4;
+
 /// A number of 16 bits is below this.
 pub(crate) const HALF_RANGE: u32 = 0x1_0000;
 

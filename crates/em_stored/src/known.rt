@@ -2,6 +2,7 @@
 ghost use Rattle.std.specs.Prelude.{◌≡◌, ◌<◌, ◌^◌, All, length};
 ghost use Rattle.em_stored.specs.Machines.{AreBelow, IsMachine, IsTag};
 
+use crate::form::CONTEXT_OCTETS;
 use em_journal::Machine;
 
 /// The machine is one that can be stored: each of its parts says so of itself. Nothing is left of this in the program.
@@ -20,6 +21,9 @@ pub(crate) fn is_machine(machine: &Machine)
     halves_fit(phy.words());
     let _mdic = phy.read();
     let _pins = adapter.pins().state();
+    let offload = adapter.offload();
+    are_context(offload.whole.octets());
+    are_context(offload.segments.octets());
     let _taken = adapter.fifo().taken();
 }
 
@@ -36,6 +40,11 @@ fn halves_fit(words: &[u16])
 /// The PHY has 32 words.
 fn are_all(words: &[u16; em_phy::WORDS])
     ensures { length words.now ≡ 32 }
+{}
+
+/// A context has 16 octets.
+fn are_context(octets: &[u8; CONTEXT_OCTETS])
+    ensures { length octets.now ≡ CONTEXT_OCTETS }
 {}
 
 /// A number of 64 bits is below its limit.

@@ -3,7 +3,7 @@ ghost use Rattle.std.specs.Prelude.{◌≡◌, IfOk};
 ghost use Rattle.em_journal.specs.View.{opening};
 
 use crate::numbers::{Numbers, read_numbers};
-use crate::parts::{read_fifo, read_memory, read_wire};
+use crate::parts::{read_fifo, read_memory, read_offload, read_wire};
 use crate::reader::Reader;
 use crate::refusal::StoredRefusal;
 use em_eeprom::Eeprom;
@@ -59,6 +59,7 @@ fn read_parts(
         return Err(StoredRefusal::Value);
     };
     let gather = Gather::of_octets(alloc, reader.counted()?)?;
+    let offload = read_offload(reader)?;
     let fifo = read_fifo(alloc, reader, taken)?;
     let wire = read_wire(alloc, reader)?;
     let memory = read_memory(
@@ -79,6 +80,7 @@ fn read_parts(
         link: link != 0,
         pins,
         phy: Phy::of_words(mdic, numbers.phy),
+        offload,
     })
 }
 

@@ -2,16 +2,37 @@
 ghost use Rattle.std.specs.Prelude.{◌≡◌, length};
 ghost use Rattle.em_mem.specs.Memory.{IsHeld};
 
-use crate::form::{HALF_RANGE, NO_TAG};
+use crate::form::{CONTEXT_OCTETS, HALF_RANGE, NO_TAG, SUMS_RANGE};
 use crate::reader::Reader;
 use crate::refusal::StoredRefusal;
 use em_mem::{GuestMemory, PAGE_OCTETS};
+use em_offload::{Context, Offload, Sums};
 use em_rx::Fifo;
 use em_tx::Wire;
 use std::alloc::Global;
 
 /// The least octets of a frame of the FIFO.
 const LEAST_FRAME: usize = 56;
+
+/// Reads the contexts that were loaded, and which checksums the frame gets that is gathered.
+pub(crate) fn read_offload(reader: &mut Reader<'_>) -> Result<Offload, StoredRefusal> {
+    let whole = read_context(reader)?;
+    let segments = read_context(reader)?;
+    let sums = reader.word()?;
+    Ok(Offload {
+        whole,
+        segments,
+        sums: Sums::of_popts((sums % SUMS_RANGE) as u8),
+    })
+}
+
+/// Reads a context.
+fn read_context(reader: &mut Reader<'_>) -> Result<Context, StoredRefusal> {
+    let found = reader.octets(CONTEXT_OCTETS as u64)?;
+    let mut octets = [0; CONTEXT_OCTETS];
+    octets.copy_from_slice(found);
+    Ok(Context::of_octets(octets))
+}
 
 /// Reads the FIFO, of whose first frame so many octets are in guest memory already.
 pub(crate) fn read_fifo(

@@ -7,7 +7,7 @@ ghost use Rattle.em_rx.specs.Frame.{Frame};
 ghost use Rattle.em_stored.specs.Form.{are_zero, counted, frame_form, listed, page_form, pages_form, tag_number};
 ghost use Rattle.em_stored.specs.Machines.{IsMachine, IsTag};
 ghost use Rattle.em_stored.specs.Stored.{body, measured};
-ghost use Rattle.em_stored.specs.Stored.{profile_number, single_numbers, stored, summed};
+ghost use Rattle.em_stored.specs.Stored.{offload_form, profile_number, single_numbers, stored, summed, sums_number};
 
 use crate::form::{BACK, MAGIC, NO_TAG, SINGLE_NUMBERS, VERSION};
 use crate::known::is_machine;
@@ -15,6 +15,7 @@ use crate::writer::{put_counted, put_halves, put_number, put_word, put_words};
 use em_crc::crc32;
 use em_journal::Machine;
 use em_mem::{GuestMemory, PAGE_OCTETS};
+use em_offload::{Offload, Sums};
 use em_regs::Profile;
 use em_rx::{Fifo, StoredFrame};
 use std::alloc::{AllocError, Global};
@@ -60,6 +61,7 @@ fn put_body(out: &mut Vec<u8>, machine: &Machine, handed: u64) -> Result<(), All
     put_words(out, adapter.registers().words())?;
     put_words(out, adapter.latches().words())?;
     put_counted(out, machine.gathered())?;
+    put_offload(out, adapter.offload())?;
     put_fifo(out, adapter.fifo())?;
     put_wire(out, machine)?;
     put_memory(out, adapter.memory())
@@ -96,6 +98,24 @@ fn profile_number(profile: Profile) -> u32
         Profile::Table => 0,
         Profile::Adapter => 1,
     }
+}
+
+/// The contexts that were loaded, and which checksums the frame gets that is gathered.
+fn put_offload(out: &mut Vec<u8>, offload: &Offload) -> Result<(), AllocError>
+    ensures { OnOk result (out.new.items ≡ out.old.items ++ offload_form offload.now) }
+{
+    out.extend_from_slice(offload.whole.octets())?;
+    out.extend_from_slice(offload.segments.octets())?;
+    put_word(out, sums_number(offload.sums))
+}
+
+/// Which checksums a frame gets, as POPTS says it.
+fn sums_number(sums: Sums) -> u32
+    ensures { result ≡ sums_number sums }
+{
+    let ip = if sums.ip { Sums::IXSM } else { 0 };
+    let transport = if sums.transport { Sums::TXSM } else { 0 };
+    u32::from(ip) + u32::from(transport)
 }
 
 /// The frames of the FIFO: a copy of it lets go of each that was written.

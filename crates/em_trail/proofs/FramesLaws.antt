@@ -1,7 +1,7 @@
 -- Frames whose octets are let go are nothing to a trail: each note tells of the same event as before.
 use Rattle.std.proofs.Common.{◌≡◌, ◌∙◌, ℕ, ◌≤◌, Bool, true, false, cond, zero, suc, List, [], ◌∷◌, ◌++◌, length, map, take}
 use Rattle.std.proofs.Common.{Option, Some, None, refl, sym, ap, subst, arith, length-append}
-use Rattle.std.specs.Prelude.{Result, Ok, Err, not, ◌==◌, ◌||◌, nat_lt}
+use Rattle.std.specs.Prelude.{Result, Ok, Err, drop, not, ◌==◌, ◌||◌, nat_lt}
 use Rattle.std.proofs.lemmas.List.{length-map}
 use Rattle.em_mem.specs.Memory.{leaves, put}
 use Rattle.em_regs.specs.declared.reg.Reg.{Reg}
@@ -22,18 +22,25 @@ use Rattle.em_rx.specs.Receive as rx
 use Rattle.em_tx.specs.Cells.{Shown}
 use Rattle.em_tx.specs.Control.{first, is_still}
 use Rattle.em_tx.specs.Engine.{fetch, gather, handle, refusal, send, sends, transmit, unless}
+use Rattle.em_tx.specs.Extended.{Both, extended_refusal, fetch_data, frames_of, gathered, handle_data, handle_extended, load}
+use Rattle.em_tx.specs.Extended.{is_context, offload_of, raw, send_data, sends_data, transmit_extended}
 use Rattle.em_tx.specs.Frame.{frame}
+use Rattle.em_tx.specs.Ring as ring
 use Rattle.em_tx.specs.Ring.{place}
 use Rattle.em_tx.specs.Wire.{let_go}
 use Rattle.em_tx.specs.declared.answer.TxAnswer.{TxAnswer}
 use Rattle.em_tx.specs.declared.answer.TxAnswer.TheVariants as tx_answer
 use Rattle.em_tx.specs.declared.control.TxControl.{TxControl}
+use Rattle.em_tx.specs.declared.extended.Did.{Did}
 use Rattle.em_tx.specs.declared.refusal.TxRefusal.{TxRefusal}
 use Rattle.em_tx.specs.declared.refusal.TxRefusal.TheVariants as tx_refusal
+use Rattle.em_tx.proofs.LetGoLaws.{length-let_go}
+use Rattle.em_regs.specs.Setup.{tx_setup}
 use Rattle.em_step.specs.Access.{after_link, after_read, after_write, after_write_by, differ, gives, gives_by, has, is_reset_by}
 use Rattle.em_step.specs.Arrival.{after_arrived, arrival, is_enabled, judgement, lacks_room}
 use Rattle.em_step.specs.Engines.{after_rx_answer, after_tx_answer, received, rx_stepped, sending, transmitted, tx_stepped}
-use Rattle.em_step.specs.Engines.{tx_control, with_outcome, with_shown}
+use Rattle.em_step.specs.Engines.{after_descriptor, after_did, answer_of_did, counted_all, extended_step, extended_stepped}
+use Rattle.em_step.specs.Engines.{has_extended, sending_both, tx_control, with_outcome, with_shown}
 use Rattle.em_step.specs.Event.{Event, reads, writes, pokes, arrives, links, receives, transmits}
 use Rattle.em_step.specs.State.{State, without_frames}
 use Rattle.em_step.specs.Step.{at_none, at_register, step}
@@ -208,6 +215,89 @@ tx_same : (k : ℕ) (s : State) (o : Result (TxAnswer × Shown) TxRefusal)
 tx_same k s (Ok r) = ap Ok (tx_answer_same k (with_shown s r.1) r.0)
 tx_same k s (Err e) = refl
 
+-- ---- over a descriptor of the extended format
+abbrev both_without : ℕ → Both → Both
+both_without k b = record b { shown = shown_without k b.shown }
+
+abbrev did_without : ℕ → Did × Both → Did × Both
+did_without k r = (r.0, both_without k r.1)
+
+abbrev did_in : ℕ → Result (Did × Both) TxRefusal → Result (Did × Both) TxRefusal
+did_in k (Ok r) = Ok (did_without k r)
+did_in k (Err e) = Err e
+
+either_did : (k : ℕ) (b : Bool) (u v x y : Did × Both) → u ≡ did_without k x → v ≡ did_without k y
+    → cond b u v ≡ did_without k (cond b x y)
+either_did k true u v x y p q = p
+either_did k false u v x y p q = q
+
+send_data_same : (k : ℕ) (q : TxSetup) (d : List ℕ) (b : Both) (frames : List (List ℕ)) → k ≤ length b.shown.wire
+    → send_data q d (both_without k b) frames ≡ did_without k (send_data q d b frames)
+send_data_same k q d b frames l =
+    let wire = let_go-append k b.shown.wire frames l in
+    let sent : Both = (send_data q d b frames).1 in
+    λ i. ((send_data q d b frames).0, record sent { shown = record sent.shown { wire = wire i } })
+
+handle_data_same : (k : ℕ) (q : TxSetup) (d : List ℕ) (b : Both) → k ≤ length b.shown.wire
+    → handle_data q d (both_without k b) ≡ did_without k (handle_data q d b)
+handle_data_same k q d b l =
+    let frames = frames_of q d (offload_of d b) (gathered d b) in
+    either_did k (sends_data d b) _ _ (send_data q d b frames) (fetch_data q d b) (send_data_same k q d b frames l) refl
+
+handle_extended_same : (k : ℕ) (q : TxSetup) (d : List ℕ) (b : Both) → k ≤ length b.shown.wire
+    → handle_extended q d (both_without k b) ≡ did_without k (handle_extended q d b)
+handle_extended_same k q d b l =
+    either_did k (is_context d) _ _ (load q d b) (handle_data q d b) refl (handle_data_same k q d b l)
+
+unless_did_same : (k : ℕ) (o : Option TxRefusal) (u x : Did × Both) → u ≡ did_without k x
+    → unless o u ≡ did_in k (unless o x)
+unless_did_same k None u x same = ap Ok same
+unless_did_same k (Some e) u x same = refl
+
+transmit_extended_same : (k : ℕ) (q : TxControl) (base : ℕ) (b : Both) → k ≤ length b.shown.wire
+    → transmit_extended q base (both_without k b) ≡ did_in k (transmit_extended q base b)
+unfolding transmit_extended
+transmit_extended_same k q base b l =
+    let d = raw q b.shown.memory in
+    unless_did_same k (extended_refusal b.offload base b.shown.gathered b.shown.memory d) _ _
+    (handle_extended_same k q.setup d b l)
+
+-- the frames that the step sent are the same
+drop-let_go : (k n : ℕ) (w : List (List ℕ)) → k ≤ n → drop n (let_go k w) ≡ drop n w
+drop-let_go zero n w l = refl
+drop-let_go (suc k) n [] l = refl
+drop-let_go (suc k) zero (f ∷ w) l = absurd (omega (arith, l))
+drop-let_go (suc k) (suc n) (f ∷ w) l = drop-let_go k n w (omega (arith, l))
+
+sent_same : (k : ℕ) (was w : List (List ℕ)) → k ≤ length was
+    → drop (length (let_go k was)) (let_go k w) ≡ drop (length was) w
+sent_same k was w l = ap (λ n. drop n (let_go k w)) (length-let_go k was) ∙ drop-let_go k (length was) w l
+
+did_same : (k : ℕ) (s : State) (o : Result (Did × Both) TxRefusal) → k ≤ length s.wire
+    → extended_stepped (without_frames k s) (did_in k o) ≡ without_in k (extended_stepped s o)
+did_same k s (Ok (d, b)) l =
+    let frames = sent_same k s.wire b.shown.wire l in
+    let q = tx_setup s.registers in
+    λ i. Ok (
+      answer_of_did q.head d (frames i),
+      after_descriptor (record (with_shown s (shown_without k b.shown)) {
+        offload = b.offload;
+        latches = counted_all s.profile (frames i) s.latches;
+      }) (ring.next q) (ring.causes q (raw (tx_control s) s.memory)),
+    )
+did_same k s (Err e) l = refl
+
+-- over any descriptor
+sending_same : (k : ℕ) (s : State) (extended : Bool) → k ≤ length s.wire
+    → cond extended (extended_step (without_frames k s)) (tx_stepped (without_frames k s) (transmitted (without_frames k s)))
+    ≡ without_in k (cond extended (extended_step s) (tx_stepped s (transmitted s)))
+sending_same k s true l =
+    ap (extended_stepped (without_frames k s)) (transmit_extended_same k (tx_control s) s.base (sending_both s) l)
+    ∙ did_same k s (transmit_extended (tx_control s) s.base (sending_both s)) l
+sending_same k s false l =
+    ap (tx_stepped (without_frames k s)) (transmit_same k (tx_control s) s.base (sending s) l)
+    ∙ tx_same k s (transmitted s)
+
 -- it answers the same, and leaves the same but for those octets
 step_same : (k : ℕ) (s : State) (e : Event) → k ≤ length s.wire → step (without_frames k s) e ≡ without_in k (step s e)
 step_same k s (reads o) l = access_without k s o (Value 0) (reg_of s.profile o) _ _ (read_same k s)
@@ -221,9 +311,7 @@ step_same k s (arrives f) l =
     frame_same k (nat_lt (length f) 14 || nat_lt 20_000 (length f)) Length _ _ (arrival_same k s f)
 step_same k s (links up) l = ap (λ t. Ok (Done, t)) (either k (differ up s.link) _ _)
 step_same k s receives l = rx_same k s (received s)
-step_same k s transmits l =
-    ap (tx_stepped (without_frames k s)) (transmit_same k (tx_control s) s.base (sending s) l)
-    ∙ tx_same k s (transmitted s)
+step_same k s transmits l = sending_same k s (has_extended s) l
 
 -- ---- no event takes frames off the wire
 abbrev Grows : ℕ → Answer × State → Type 0
@@ -353,6 +441,47 @@ tx_grows s (Ok o) r longer is =
     given (length s.wire) (after_tx_answer (with_shown s o.1) o.0) r _ refl (omega (arith, longer, grows)) is
 tx_grows s (Err e) r longer is = cc
 
+either_did_longer : (b : Bool) (x y : Did × Both) (n : ℕ) → n ≤ length x.1.shown.wire → n ≤ length y.1.shown.wire
+    → n ≤ length (cond b x y).1.shown.wire
+either_did_longer true x y n left right = left
+either_did_longer false x y n left right = right
+
+abbrev DidLonger : ℕ → Result (Did × Both) TxRefusal → Type 0
+DidLonger n (Ok r) = n ≤ length r.1.shown.wire
+DidLonger n (Err e) = Unit {0}
+
+unless_did_longer : (n : ℕ) (o : Option TxRefusal) (x : Did × Both) → n ≤ length x.1.shown.wire
+    → DidLonger n (unless o x)
+unless_did_longer n None x l = l
+unless_did_longer n (Some e) x l = tt
+
+more_frames : (w fs : List (List ℕ)) → length w ≤ length (w ++ fs)
+more_frames w fs = omega (arith, length-append w fs)
+
+extended_longer : (q : TxControl) (base : ℕ) (b : Both) → DidLonger (length b.shown.wire) (transmit_extended q base b)
+unfolding transmit_extended
+extended_longer q base b =
+    let d = raw q b.shown.memory in
+    let frames = frames_of q.setup d (offload_of d b) (gathered d b) in
+    let n = length b.shown.wire in
+    unless_did_longer n (extended_refusal b.offload base b.shown.gathered b.shown.memory d) (handle_extended q.setup d b)
+    (either_did_longer (is_context d) (load q.setup d b) (handle_data q.setup d b) n (all n)
+    (either_did_longer (sends_data d b) (send_data q.setup d b frames) (fetch_data q.setup d b) n
+    (more_frames b.shown.wire frames) (all n)))
+
+did_grows : (s : State) (o : Result (Did × Both) TxRefusal) (r : Answer × State) → DidLonger (length s.wire) o
+    → extended_stepped s o ≡ Ok r → Grows (length s.wire) r
+did_grows s (Ok o) r longer is = given (length s.wire) (after_did s o.0 o.1) r _ refl longer is
+did_grows s (Err e) r longer is = cc
+
+sending_grows : (s : State) (extended : Bool) (r : Answer × State)
+    → cond extended (extended_step s) (tx_stepped s (transmitted s)) ≡ Ok r → Grows (length s.wire) r
+sending_grows s true r is =
+    did_grows s (transmit_extended (tx_control s) s.base (sending_both s)) r
+    (extended_longer (tx_control s) s.base (sending_both s)) is
+sending_grows s false r is =
+    tx_grows s (transmitted s) r (transmit_longer (tx_control s) s.base (sending s)) is
+
 step_grows : (s : State) (e : Event) (r : Answer × State) → step s e ≡ Ok r → length s.wire ≤ length r.1.wire
 step_grows s (reads o) r is =
     access_grows (reg_of s.profile o) (λ reg. (Value (gives s reg), after_read s reg)) s o (Value 0) r
@@ -370,8 +499,7 @@ step_grows s (links up) r is =
     given (length s.wire) (Done, after_link s up) r (Ok (Done, after_link s up)) refl
     (either_grows (differ up s.link) _ _ (length s.wire) (all (length s.wire)) (all (length s.wire))) is
 step_grows s receives r is = rx_grows s (received s) r is
-step_grows s transmits r is =
-    tx_grows s (transmitted s) r (transmit_longer (tx_control s) s.base (sending s)) is
+step_grows s transmits r is = sending_grows s (has_extended s) r is
 
 -- ---- what notes tell
 dma_same : (k : ℕ) (s : State) (e : Event) → dma_of (without_frames k s) e ≡ dma_of s e

@@ -1,26 +1,5 @@
 -- How a step comes out.
-use Rattle.std.proofs.Common.{
-  ◌≡◌,
-  inl,
-  inr,
-  ◌+◌,
-  ◌<◌,
-  true,
-  false,
-  IsTrue,
-  List,
-  length,
-  ℕ,
-  Some,
-  None,
-  Ok,
-  refl,
-  sym,
-  ap,
-  ◌∙◌,
-  subst,
-  arith,
-}
+use Rattle.std.proofs.Common.{◌≡◌, inl, inr, true, false, IsTrue, List, ℕ, Some, None, Ok, refl, sym, ap, ◌∙◌, subst}
 use Rattle.std.specs.Prelude.{not, IsOk}
 use Rattle.em_mem.specs.Memory.{LiesIn, leaves}
 use Rattle.em_mem.proofs.NeedsLaws.{stays_in}

@@ -3,9 +3,9 @@ use Rattle.std.proofs.Common.{◌≡◌, ℕ, ◌-◌, ◌<◌, ◌≤◌, List,
 use Rattle.std.proofs.Common.{sym, ap, ◌∙◌, arith, zero, suc, subst}
 use Rattle.std.proofs.lemmas.List.{length-take-le}
 use Rattle.std.specs.Prelude.{true, false}
-use Rattle.em_mem.specs.Memory as mem
 use Rattle.em_tx.specs.Cells.{Cells, cells}
-use Rattle.em_tx.specs.Change.{Change}
+use Rattle.em_tx.specs.Extended.{FitsExtended, undo_extended, undo_gather}
+use Rattle.em_tx.specs.declared.extended.BeforeExtended.{BeforeExtended}
 use Rattle.em_tx.specs.Frame.{without_tag}
 use Rattle.em_tx.specs.Undo.{Fits, SentFits, front_of, gathered_of, last_of, undo, wire_before}
 use Rattle.em_tx.specs.Wire.{let_go}
@@ -106,3 +106,19 @@ pub undo-shorter : (c : Cells) (r : TxUndo) → length (undo c r).wire ≤ lengt
 undo-shorter c Nothing = omega arith
 undo-shorter c (Step change) = wire-shorter c.wire change.sent
 undo-shorter c (Cleared old) = omega arith
+
+-- ---- a record of a step over a descriptor of the extended format
+pub extended_fits-let_go : (k : ℕ) (c : Cells) (b : BeforeExtended) → FitsExtended c b → FitsExtended (without k c) b
+extended_fits-let_go k c b fit = (subst (λ n. b.frames ≤ n) (sym (length-let_go k c.wire)) fit.0, fit.1)
+
+pub extended_undo-let_go : (k : ℕ) (c : Cells) (b : BeforeExtended)
+    → undo_extended (without k c) b ≡ without k (undo_extended c b)
+extended_undo-let_go k c b =
+    let wire : take (length (let_go k c.wire) - b.frames) (let_go k c.wire) ≡ let_go k (take (length c.wire - b.frames) c.wire)
+    = ap (λ n. take (n - b.frames) (let_go k c.wire)) (length-let_go k c.wire)
+    ∙ take-let_go (length c.wire - b.frames) k c.wire in
+    λ i. cells (undo_gather c.gathered b.gathered) (wire i) (undo_extended c b).memory
+
+pub extended-shorter : (c : Cells) (b : BeforeExtended) → length (undo_extended c b).wire ≤ length c.wire
+extended-shorter c b =
+    omega (arith, length-take-le (length c.wire - b.frames) c.wire (omega arith))

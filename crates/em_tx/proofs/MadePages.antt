@@ -1,8 +1,12 @@
 -- More made pages of guest memory leave each record fitting.
-use Rattle.std.proofs.Common.{◌≡◌, ℕ, ◌≤◌, true, false, length, take, Option, Some, None, ap, refl, sym, subst}
+use Rattle.std.proofs.Common.{◌≡◌, ℕ, ◌-◌, ◌≤◌, true, false, length, take, Option, Some, None, ap, refl, sym, subst}
 use Rattle.em_mem.specs.Memory as mem
 use Rattle.em_mem.proofs.MadePages as memory_laws
-use Rattle.em_tx.specs.Cells.{Cells, MorePages}
+use Rattle.em_tx.specs.Cells.{Cells, Gathered, MorePages, MoreRoom}
+use Rattle.em_tx.specs.Extended.{FitsExtended, undo_extended, undo_gather}
+use Rattle.em_tx.specs.declared.extended.BeforeExtended.{BeforeExtended}
+use Rattle.em_tx.specs.declared.extended.BeforeGather.{BeforeGather}
+use Rattle.em_tx.specs.declared.extended.BeforeGather.TheVariants.{Cut, Put}
 use Rattle.em_tx.specs.Frame.{without_tag}
 use Rattle.em_tx.specs.Change.{Change}
 use Rattle.em_tx.specs.Undo.{ChangeFits, FrameFits, Fits, SentFits, StatusFits, gathered_before, last_of}
@@ -61,4 +65,23 @@ undo_after c d (Cleared old) more = record {
   gathered = record { octets = refl; room = λ room. room };
   wire = more.wire;
   memory = more.memory;
+}
+
+-- ---- a record of a step over a descriptor of the extended format
+pub extended_fits_after : (c d : Cells) (b : BeforeExtended) → MorePages c d → FitsExtended c b → FitsExtended d b
+extended_fits_after c d b more fits = (
+  subst (λ w. b.frames ≤ length w) (sym more.wire) fits.0,
+  status_fits_after c.memory d.memory b.status more.memory fits.1,
+)
+
+gather_after : (g h : Gathered) (b : BeforeGather) → MoreRoom g h → MoreRoom (undo_gather g b) (undo_gather h b)
+gather_after g h (Cut n) more = record { octets = ap (take n) more.octets; room = more.room }
+gather_after g h (Put old) more = record { octets = refl; room = λ room. room }
+
+pub extended_undo_after : (c d : Cells) (b : BeforeExtended) → MorePages c d
+    → MorePages (undo_extended c b) (undo_extended d b)
+extended_undo_after c d b more = record {
+  gathered = gather_after c.gathered d.gathered b.gathered more.gathered;
+  wire = ap (λ w. take (length w - b.frames) w) more.wire;
+  memory = status_after c.memory d.memory b.status more.memory;
 }

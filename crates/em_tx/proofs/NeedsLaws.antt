@@ -1,7 +1,6 @@
 -- A transmit step over one memory, by the step over another one that agrees on what it reads.
 use Rattle.std.proofs.Common.{◌≡◌, ◌∙◌, ℕ, ◌+◌, Bool, true, false, nat_lt, ◌||◌, if◌then◌else◌, List, [], ◌∷◌, ◌++◌}
 use Rattle.std.proofs.Common.{length, take, Option, Some, None, Result, Ok, Err, refl, sym, ap, arith}
-use Rattle.std.proofs.lemmas.Bool.Decides.{nat_tests}
 use Rattle.std.proofs.lemmas.List.Elements.{All-head, All-tail}
 use Rattle.em_mem.specs.declared.needs.Needs.{Needs}
 use Rattle.em_mem.specs.declared.needs.Range.{Range}

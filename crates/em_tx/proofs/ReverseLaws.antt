@@ -26,7 +26,7 @@ front_of-append : (w : List (List ℕ)) (f : List ℕ) → front_of (w ++ f ∷ 
 front_of-append w f = ap (λ n. take n (w ++ f ∷ [])) (length-before_last w f) ∙ take_at w (f ∷ []) (length w) refl
 
 -- memory that is as it was has the same pages made
-MorePages-same : (m n : mem.Cells) → n ≡ m → mem.MorePages m n
+pub MorePages-same : (m n : mem.Cells) → n ≡ m → mem.MorePages m n
 MorePages-same m n is = record {
   base = ap (λ x. x.base) is;
   octets = ap (λ x. x.octets) is;

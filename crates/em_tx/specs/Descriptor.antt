@@ -1,5 +1,5 @@
 -- A transmit descriptor: 16 octets, of each field the lowest octet first.
-use Rattle.std.specs.Prelude.{ℕ, Bool, List, drop, slice_index}
+use Rattle.std.specs.Prelude.{ℕ, ◌+◌, ◌*◌, ◌/◌, ◌%◌, Bool, List, drop, slice_index}
 use Rattle.byteorder.specs.Endian.{little_number}
 use Rattle.em_regs.specs.Setup.{bit}
 
@@ -38,3 +38,20 @@ dext d = bit (command d) 5
 -- a VLAN tag is to be inserted
 unfoldable pub vle : List ℕ → Bool
 vle d = bit (command d) 6
+
+-- ---- of a descriptor of another format
+-- which one it is (DTYP): octet 10, its high half
+abbrev pub dtyp : List ℕ → ℕ
+dtyp d = slice_index d 10 / 16
+
+-- the buffer's length, 20 bits: octets 8 and 9, and the low half of octet 10; with the address 0 there is no buffer
+unfoldable pub dtalen : List ℕ → ℕ
+dtalen d = length_of d + 0x1_0000 * (slice_index d 10 % 16)
+
+-- the frame becomes segments
+unfoldable pub tse : List ℕ → Bool
+tse d = bit (command d) 2
+
+-- which checksums the frame gets
+abbrev pub popts : List ℕ → ℕ
+popts d = slice_index d 13

@@ -165,7 +165,7 @@ fn gather_first(
 
 /// Lays a status octet over a window, where one was overwritten.
 #[inline(always)]
-fn lay_status(status: &Option<Status>, addr: u64, window: &mut [u8])
+pub(crate) fn lay_status(status: &Option<Status>, addr: u64, window: &mut [u8])
     ensures { window.new ≡ laid_status status.now addr window.old }
 {
     if let Some(status) = status {
@@ -175,7 +175,7 @@ fn lay_status(status: &Option<Status>, addr: u64, window: &mut [u8])
 
 /// Where a status octet was overwritten, if one was at `addr` or beyond.
 #[inline(always)]
-fn next_of_status(status: &Option<Status>, addr: u64) -> Option<u64>
+pub(crate) fn next_of_status(status: &Option<Status>, addr: u64) -> Option<u64>
     ensures { result ≡ next_of_status status.now addr }
 {
     match status {

@@ -1,8 +1,8 @@
 //! The transmit descriptor (manual, chapter on transmit description, legacy format).
-ghost use Rattle.std.specs.Prelude.{◌≡◌, slice_index};
+ghost use Rattle.std.specs.Prelude.{◌≡◌, ◌<◌, slice_index};
 ghost use Rattle.em_tx.specs.Control.{as_read};
 ghost use Rattle.em_regs.specs.declared.profile.Profile.TheVariants.{Adapter};
-ghost use Rattle.em_tx.specs.Descriptor.{address, dext, eop, length_of, rs, special, vle};
+ghost use Rattle.em_tx.specs.Descriptor.{address, dext, dtalen, dtyp, eop, length_of, popts, rs, special, tse, vle};
 
 use byteorder::{ByteOrder, LittleEndian};
 use em_regs::{DESCRIPTOR_OCTETS, Profile};
@@ -13,11 +13,21 @@ const LENGTH: usize = 8;
 
 const CSO: usize = 10;
 
+/// The half octet with DTYP, above four bits of DTALEN.
+const DTYP: usize = 10;
+
+const LOW_HALF: u8 = 16;
+
+/// How many lengths there are in octets 8 and 9, below those four bits.
+const LENGTHS: u32 = 0x1_0000;
+
 const COMMAND: usize = 11;
 
 pub(crate) const STATUS: usize = 12;
 
 const CSS: usize = 13;
+
+const POPTS: usize = 13;
 
 const SPECIAL: usize = 14;
 
@@ -43,6 +53,9 @@ impl TxDescriptor {
 
     /// A bit of CMD: a check sequence is to be added. It has no effect (this project's profile).
     pub const IFCS: u8 = 0x02;
+
+    /// A bit of DCMD, of a data descriptor: the frame becomes segments.
+    pub const TSE: u8 = 0x04;
 
     /// A bit of CMD: the status is to be reported.
     pub const RS: u8 = 0x08;
@@ -164,6 +177,44 @@ impl TxDescriptor {
         ensures { result ≡ dext self.now }
     {
         self.command() / TxDescriptor::DEXT % 2 == 1
+    }
+
+    /// DTYP: which format it has, where DEXT is set: 0 is a context, and 1 data.
+    pub fn dtyp(&self) -> u8
+        ensures { result ≡ dtyp self.now }
+    {
+        self.octets[DTYP] / LOW_HALF
+    }
+
+    /// DTALEN: how many octets the buffer of a data descriptor has.
+    #[tactic(auto, unfolding(crate::specs::Descriptor::dtalen))]
+    pub fn dtalen(&self) -> u32
+        ensures len { result ≡ dtalen self.now }
+        ensures few { result < 0x10_0000 }
+    {
+        u32::from(self.length()) + LENGTHS * u32::from(self.octets[DTYP] % LOW_HALF)
+    }
+
+    /// DCMD.TSE: the frame becomes segments.
+    #[tactic(auto, unfolding(crate::specs::Descriptor::tse))]
+    pub fn tse(&self) -> bool
+        ensures { result ≡ tse self.now }
+    {
+        self.command() / TxDescriptor::TSE % 2 == 1
+    }
+
+    /// POPTS: which checksums the frame of a data descriptor gets.
+    pub fn popts(&self) -> u8
+        ensures { result ≡ popts self.now }
+    {
+        self.octets[POPTS]
+    }
+
+    /// Its octets.
+    pub(crate) fn octets(&self) -> [u8; DESCRIPTOR_OCTETS]
+        ensures { result ≡ self.now }
+    {
+        self.octets
     }
 
     /// CMD.VLE: a VLAN tag is to be inserted.

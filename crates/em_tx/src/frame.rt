@@ -134,7 +134,7 @@ fn pad(octets: &mut Vec<u8>, wanted: bool)
 
 /// The kind of a sent frame's destination.
 #[tactic(auto, unfolding(crate::specs::Frame::kind_sent, em_address::specs::Kind::destination))]
-pub(crate) fn kind_sent(frame: &[u8]) -> Kind
+pub fn kind_sent(frame: &[u8]) -> Kind
     ensures { result ≡ kind_sent frame.now }
 {
     if frame.len() < ADDRESS_OCTETS {

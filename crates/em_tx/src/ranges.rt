@@ -3,7 +3,9 @@
 ghost use Rattle.std.specs.Prelude.{◌≡◌, ◌≤◌, ◌∷◌, [], length};
 ghost use Rattle.em_mem.specs.Needs.{AreHeld, with_octets_of};
 ghost use Rattle.em_tx.specs.Cells.{Cells};
-ghost use Rattle.em_tx.specs.Needs.{buffer, needs, status, written_at, written_by};
+ghost use Rattle.em_mem.specs.Memory.{IsHeld};
+ghost use Rattle.em_tx.specs.Needs.{buffer, extended_buffer, needs, needs_extended, status, written_at, written_by};
+ghost use Rattle.em_tx.specs.Ring.{place};
 ghost use Rattle.em_tx.specs.Undo.{ChangeFits, undo_change};
 
 use crate::change::{Change, Status};
@@ -11,10 +13,11 @@ use crate::control::TxControl;
 use crate::descriptor::{STATUS, TxDescriptor};
 use crate::engine::refusal_of;
 use crate::gather::Gather;
-use crate::ring;
 use crate::undo::TxUndo;
+use crate::{extended, ring};
 use em_mem::laws::places_are_small;
 use em_mem::{GuestMemory, MOST_END, Needs, Range};
+use em_offload::Offload;
 use em_regs::DESCRIPTOR_OCTETS;
 
 /// What the next step reads of guest memory, and what it writes there: it reads its descriptor and then the buffer, and
@@ -42,6 +45,50 @@ pub fn needs(gather: &Gather, memory: &GuestMemory, control: &TxControl) -> Need
     Needs {
         reads: [descriptor, buffer_of(&found.descriptor)],
         writes: [status_of(found.place, &found.descriptor), Range::none()],
+    }
+}
+
+/// The same of a step over a descriptor of the extended format, which is the first.
+pub fn needs_extended(
+    gather: &Gather,
+    offload: &Offload,
+    memory: &GuestMemory,
+    control: &TxControl,
+) -> Needs
+    requires { IsHeld memory.now (place control.now.setup) 16 }
+    ensures needs { result
+        ≡ needs_extended control.now memory.now.base offload.now gather.now.octets memory.now.octets }
+    ensures reads { AreHeld memory.now.base memory.now.octets result.reads }
+    ensures writes { AreHeld memory.now.base memory.now.octets result.writes }
+{
+    places_are_small(memory);
+    let Some(at) = control.setup.ring().address_of(control.setup.head) else {
+        unreachable!();
+    };
+    let found = TxDescriptor::of_octets(memory.read_array(at));
+    let descriptor = Range {
+        at,
+        len: DESCRIPTOR_OCTETS as u64,
+    };
+    if extended::refusal_of(offload, gather, memory, &found).is_some() {
+        return Needs::reads_only(descriptor);
+    }
+    Needs {
+        reads: [descriptor, extended_buffer(&found)],
+        writes: [status_of(at, &found), Range::none()],
+    }
+}
+
+/// The range of the buffer of a descriptor of the extended format: a context has none.
+fn extended_buffer(descriptor: &TxDescriptor) -> Range
+    ensures { result ≡ extended_buffer descriptor.now }
+{
+    if descriptor.is_context() || descriptor.buffer_len() == 0 {
+        return Range::none();
+    }
+    Range {
+        at: descriptor.address(),
+        len: descriptor.buffer_len() as u64,
     }
 }
 
@@ -112,7 +159,7 @@ impl Status {
 }
 
 /// The range of a status octet, where one was overwritten.
-fn range_of(status: &Option<Status>) -> Range
+pub(crate) fn range_of(status: &Option<Status>) -> Range
     ensures { result ≡ written_at status.now }
 {
     match status {

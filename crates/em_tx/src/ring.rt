@@ -37,6 +37,7 @@ pub(crate) struct Found {
 }
 
 /// The first descriptor, as it is read; none where it leaves memory.
+#[inline(always)]
 pub(crate) fn first(memory: &GuestMemory, control: &TxControl) -> Option<Found>
     ensures place { IfSome result (λ found. found.place ≡ place control.now.setup) }
     ensures octets { IfSome result (λ found. found.descriptor ≡ spec.first control.now memory.now.octets) }

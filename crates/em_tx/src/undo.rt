@@ -85,11 +85,11 @@ fn take_frame_back(gather: &mut Gather, wire: &mut Wire, tagged: bool, count: us
     ensures wire { wire.new ≡ front_of wire.old }
 {
     gather.take_frame(wire.last(), tagged, count);
-    wire.drop_last();
+    wire.keep(wire.len() - 1);
 }
 
 /// Puts a status octet back.
-fn put_back(memory: &mut GuestMemory, status: Option<Status>)
+pub(crate) fn put_back(memory: &mut GuestMemory, status: Option<Status>)
     requires { StatusFits memory.old status }
     ensures { memory.new ≡ status_undo memory.old status }
 {

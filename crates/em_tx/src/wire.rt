@@ -1,7 +1,7 @@
 //! The frames that were sent.
 ghost use Rattle.std.specs.Prelude.{◌≡◌, ◌++◌, ◌∷◌, ◌-◌, ◌<◌, ◌≤◌, [], ℕ, IfOk, OnErr, OnOk, length, map, slice_get, slice_index};
-ghost use Rattle.std.specs.Prelude.{drop, slice_index_or};
-ghost use Rattle.em_tx.specs.Undo.{front_of, last_of};
+ghost use Rattle.std.specs.Prelude.{drop, slice_index_or, take};
+ghost use Rattle.em_tx.specs.Undo.{last_of};
 ghost use Rattle.em_tx.specs.Wire.{AreLaid, HasRoom, let_go, plain};
 ghost use Rattle.std.specs.Option.{option_map};
 
@@ -97,12 +97,12 @@ impl Wire {
         self.frames.at(self.frames.ends.len() - 1)
     }
 
-    /// Takes the last frame off the wire.
-    pub(crate) fn drop_last(&mut self)
-        requires { 0 < length self.old }
-        ensures { self.new ≡ front_of self.old }
+    /// Takes all frames off the wire but the first ones.
+    pub(crate) fn keep(&mut self, count: usize)
+        requires { count ≤ length self.old }
+        ensures { self.new ≡ take count self.old }
     {
-        self.frames.drop_last();
+        self.frames.keep(count);
     }
 }
 
@@ -159,17 +159,16 @@ impl Frames {
         self.ends.push_reserved(self.octets.len());
     }
 
-    /// Takes the last frame away.
-    fn drop_last(&mut self)
+    /// Takes all frames away but the first ones.
+    fn keep(&mut self, count: usize)
         requires laid { AreLaid self.old }
-        requires some { 0 < length self.old.ends.items }
-        ensures frames { plain self.new ≡ front_of (plain self.old) }
+        requires within { count ≤ length self.old.ends.items }
+        ensures frames { plain self.new ≡ take count (plain self.old) }
         ensures laid { AreLaid self.new }
     {
-        let left = self.ends.len() - 1;
-        let start = self.start(left);
-        self.ends.truncate(left);
-        self.octets.truncate(start);
+        let end = self.start(count);
+        self.ends.truncate(count);
+        self.octets.truncate(end);
     }
 
     /// Lets go of the octets of the first frames: where these end, the others begin.

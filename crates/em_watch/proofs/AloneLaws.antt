@@ -13,7 +13,7 @@ use Rattle.em_step.specs.Access.{gives}
 use Rattle.em_step.specs.Before.{LeavesFrom, LeavesRegister, register_before_by, stored_before}
 use Rattle.em_step.specs.Cells.{shows}
 use Rattle.em_step.specs.Undo.{Changed, Undo, undo, word}
-use Rattle.em_step.specs.Undo.{Nothing, Register, Octets, Arrival, RxStep, TxStep, Link, Pins, Phy, Reset}
+use Rattle.em_step.specs.Undo.{Nothing, Register, Octets, Arrival, RxStep, TxStep, Extended, Link, Pins, Phy, Reset}
 use Rattle.em_step.proofs.BeforeLaws.{register_undone}
 use Rattle.em_step.proofs.SizeLaws.{profile_stays}
 use Rattle.em_journal.specs.Record.{IsRecordAt}
@@ -43,6 +43,8 @@ stored_alone (RxStep head old) reg z o value =
     unwraps_to (registers.old_at (word Rdh head) (offset_of reg)) z o value
 stored_alone (TxStep old head) reg z o value =
     unwraps_to (registers.old_at (word Tdh head) (offset_of reg)) z o value
+stored_alone (Extended old) reg z o value =
+    unwraps_to (registers.old_at (word Tdh old.head) (offset_of reg)) z o value
 stored_alone (Link old) reg z o value = refl
 stored_alone (Pins old told) reg z o value = refl
 stored_alone (Phy old) reg z o value = refl

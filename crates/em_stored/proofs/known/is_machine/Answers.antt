@@ -3,6 +3,7 @@ use Rattle.std.specs.List.{All}
 use Rattle.em_regs.specs.Storage as register_table
 use Rattle.em_latch.specs.Storage as latch_table
 use Rattle.em_pins.specs.Pins.{IsState}
+use Rattle.em_offload.specs.declared.offload.Offload.{Offload}
 use Rattle.em_phy.specs.Phy as phy
 use Rattle.em_rx.specs.Fifo as rx
 use Rattle.em_rx.specs.Frame.{Frame}
@@ -44,6 +45,10 @@ returns c =
       mdic = subst (λ (n : ℕ). n < 2 ^ 32) (c.read-mdic.ensures ∙ ap (λ (p : phy.State). p.mdic) c.phy-phy.ensures)
           c.read-mdic.type_inv;
       pins = subst IsState c.pins.ensures c.state-pins.ensures.can_be;
+      whole = ap length (sym (c.octets.ensures ∙ ap (λ (o : Offload). o.whole) c.offload-offload.ensures))
+          ∙ c.are_context.ensures;
+      segments = ap length (sym (c.octets-2.ensures ∙ ap (λ (o : Offload). o.segments) c.offload-offload.ensures))
+          ∙ c.are_context-2.ensures;
       fifo = subst (λ (f : rx.Cells). rx.IsFifo (rx.shows f)) c.fifo.ensures c.taken-taken.ensures.fifo;
       tags = subst (λ (t : State). All (λ (f : Frame). IsTag f.tag) t.fifo.frames) (sym shown) c.requires;
     } in

@@ -5,6 +5,7 @@ use Rattle.em_regs.specs.Storage.{Registers}
 use Rattle.em_regs.specs.Storage as registers
 use Rattle.em_regs.specs.RegFile.{words_of}
 use Rattle.em_latch.specs.Storage as latches
+use Rattle.em_offload.specs.declared.offload.Offload.{Offload}
 use Rattle.em_phy.specs.Phy as phy
 use Rattle.em_rx.specs.Fifo as rx
 use Rattle.em_rx.specs.Frame.{Frame}
@@ -12,7 +13,7 @@ use Rattle.std.specs.List.{All}
 use Rattle.em_step.specs.State.{State}
 use Rattle.em_stored.specs.Machines.{IsTag}
 use Rattle.em_stored.specs.Form.{number, words, counted, listed, frame_form, pages_form}
-use Rattle.em_stored.specs.Stored.{single_numbers, register_words, latch_words}
+use Rattle.em_stored.specs.Stored.{offload_form, single_numbers, register_words, latch_words}
 use Rattle.em_stored.proofs.FormLaws.{two}
 use Rattle.em_stored.proofs.storing.put_body.Goals as goal
 
@@ -28,6 +29,7 @@ returns-clause-octets c =
     let o5 = c.put_words-2.new.out.items in
     let o6 = c.put_words-3.new.out.items in
     let o7 = c.put_counted.new.out.items in
+    let o7b = c.put_offload.new.out.items in
     let o8 = c.put_fifo.new.out.items in
     let o9 = c.put_wire.new.out.items in
     let o10 = c.put_memory.new.out.items in
@@ -38,6 +40,7 @@ returns-clause-octets c =
     let p5 = words (register_words s) in
     let p6 = words (latch_words s) in
     let p7 = counted s.gathered in
+    let p7b = offload_form s.offload in
     let p8 = listed frame_form s.fifo.frames in
     let p9 = listed counted s.wire in
     let p10 = pages_form ((length s.memory - s.base) / 4096) (drop s.base s.memory) in
@@ -61,10 +64,14 @@ returns-clause-octets c =
     (c.words-4.ensures.words ∙ ap (λ (m : Registers). words_of latches.offsets m) c.latches.ensures
     ∙ ap (λ (t : State). latch_words t) shown) in
     let e7 : o7 ≡ o6 ++ p7 = c.in_ok-put_counted.ensures ∙ ap (λ ns. o6 ++ counted ns) c.gathered.ensures in
-    let e8 : o8 ≡ o7 ++ p8
+    let e7b : o7b ≡ o7 ++ p7b
+    = c.in_ok-put_offload.ensures
+    ∙ ap (λ (o : Offload). o7 ++ offload_form o) c.offload.ensures
+    ∙ ap (λ (t : State). o7 ++ offload_form t.offload) shown in
+    let e8 : o8 ≡ o7b ++ p8
     = c.in_ok-put_fifo.ensures.octets
-    ∙ ap (λ (f : rx.Cells). o7 ++ listed frame_form (rx.shows f).frames) c.fifo.ensures
-    ∙ ap (λ (t : State). o7 ++ listed frame_form t.fifo.frames) shown in
+    ∙ ap (λ (f : rx.Cells). o7b ++ listed frame_form (rx.shows f).frames) c.fifo.ensures
+    ∙ ap (λ (t : State). o7b ++ listed frame_form t.fifo.frames) shown in
     let e9 : o9 ≡ o8 ++ p9 = c.in_ok-put_wire.ensures in
     on_ok_weaker c.put_memory.result
     (λ last.
@@ -74,9 +81,10 @@ returns-clause-octets c =
     c.memory.ensures
     ∙ ap (λ (t : State). o9 ++ pages_form ((length t.memory - t.base) / 4096) (drop t.base t.memory)) shown in
     let s9 = two o8 o9 o10 p9 p10 e9 e10 in
-    let s8 = two o7 o8 o10 p8 (p9 ++ p10) e8 s9 in
-    let s7 = two o6 o7 o10 p7 (p8 ++ (p9 ++ p10)) e7 s8 in
-    let q7 = p7 ++ (p8 ++ (p9 ++ p10)) in
+    let s8 = two o7b o8 o10 p8 (p9 ++ p10) e8 s9 in
+    let s7b = two o7 o7b o10 p7b (p8 ++ (p9 ++ p10)) e7b s8 in
+    let s7 = two o6 o7 o10 p7 (p7b ++ (p8 ++ (p9 ++ p10))) e7 s7b in
+    let q7 = p7 ++ (p7b ++ (p8 ++ (p9 ++ p10))) in
     let s6 = two o5 o6 o10 p6 q7 e6 s7 in
     let s5 = two o4 o5 o10 p5 (p6 ++ q7) e5 s6 in
     let s4 = two o3 o4 o10 p4 (p5 ++ (p6 ++ q7)) e4 s5 in

@@ -23,5 +23,6 @@ returns-clause-reverses c =
         profile = ap (λ (x : Cells). x.profile) c.self.view_is;
         pins = ap (λ (x : Cells). x.pins) c.self.view_is;
         phy = ap (λ (x : Cells). x.phy) c.self.view_is;
+        offload = ap (λ (x : Cells). x.offload) c.self.view_is;
       };
     }

@@ -1,8 +1,14 @@
-use Rattle.std.proofs.Common.{◌≡◌, ◌∙◌, ap, arith, rules}
+use Rattle.std.proofs.Common.{◌≡◌, ◌∙◌, ap, arith, rules, subst}
+use Rattle.em_tx.specs.Cells.{MorePages, cells, shows as shown}
+use Rattle.em_tx.specs.Engine.{Refuses}
+use Rattle.em_step.specs.Undo.{tx_cells_of}
+use Rattle.em_step.specs.Cells.{Cells, shows}
+use Rattle.em_step.specs.Engines.{tx_refused}
+use Rattle.em_step.proofs.ResultLaws.{not_sent, refused_by}
 use Rattle.em_tx.specs.TxStep.{answer_of}
 use Rattle.em_tx.specs.declared.answer.TxStep.{TxStep}
 use Rattle.em_tx.specs.declared.answer.TxStep.TheVariants.{Handled}
-use Rattle.em_step.proofs.EngineLaws.{causes_raised, raises_few}
+use Rattle.em_step.proofs.EngineLaws.{causes_raised, raises_few, tx_refuses}
 use Rattle.em_step.proofs.adapter.Adapter.transmit_step.Goals as goal
 
 pub count_sent-latches-requires-clause-causes : goal.count_sent-latches-requires-clause-causes
@@ -33,7 +39,25 @@ returns-after-frame-clause-ok c = record {
         profile = search rules;
         pins = search rules;
         phy = search rules;
+        offload = search rules;
       };
     };
   };
 }
+
+pub returns-in_err-transmit-clause-err : goal.returns-in_err-transmit-clause-err
+returns-in_err-transmit-clause-err c =
+    let was = c.args.self.now in
+    let q = c.tx_control-control.result in
+    let refused = c.in_err-transmit.field-0.0 in
+    let e = c.in_err-transmit.ensures in
+    let is = c.self.view_is in
+    let err = subst (λ (x : Cells). Refuses q x.memory.base (shown (tx_cells_of x)) refused) is e.err in
+    let after = cells c.transmit.new.gather c.transmit.new.wire c.transmit.new.memory in
+    let more = subst (λ (x : Cells). MorePages (tx_cells_of x) after) is e.same in
+    let why = tx_refuses (shows was) q refused c.requires c.tx_control-control.ensures err in
+    refused_by c.from_residual.result c.from_residual.ensures.1
+    (not_sent was _ (tx_refused refused) why more
+    (ap (λ (x : Cells). x.registers) is) (ap (λ (x : Cells). x.latches) is) (ap (λ (x : Cells). x.fifo) is)
+    (ap (λ (x : Cells). x.eeprom) is) (ap (λ (x : Cells). x.link) is) (ap (λ (x : Cells). x.profile) is)
+    (ap (λ (x : Cells). x.pins) is) (ap (λ (x : Cells). x.phy) is) (ap (λ (x : Cells). x.offload) is))

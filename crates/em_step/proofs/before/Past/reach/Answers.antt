@@ -22,3 +22,10 @@ returns-in-TxStep c =
     leaves_from c.args.self.now 0x05000 c.args.known
     (λ reg named high other. rw (sym c.self.view_is, c.in-TxStep.is) (tail_missed _ _ high))
     (λ reg high latched. latched_low reg latched high)
+
+pub returns-in-Extended : goal.returns-in-Extended
+returns-in-Extended c =
+    leaves_from c.args.self.now 0x05000 c.args.known
+    (λ reg named high other. rw (sym c.self.view_is, c.in-Extended.is)
+    (tail_missed _ _ high, λ latched. latched_low reg latched high))
+    (λ reg high latched. latched_low reg latched high)

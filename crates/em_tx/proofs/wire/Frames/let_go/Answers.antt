@@ -1,6 +1,6 @@
-use Rattle.std.proofs.Common.{◌≡◌, ◌∙◌, ◌-◌, ◌≤◌, ℕ, ap, arith, drop, get_or, length, map, subst, sym, ◌∷◌}
+use Rattle.std.proofs.Common.{◌≡◌, ◌∙◌, ◌-◌, ℕ, ap, arith, length, map, subst, sym}
 use Rattle.std.proofs.lemmas.List.{length-drop}
-use Rattle.em_tx.specs.Wire.{AreEnds, frames_from, let_go, plain}
+use Rattle.em_tx.specs.Wire.{AreEnds, frames_from}
 use Rattle.em_tx.proofs.WireLaws.{ends_moved, frames_let_go, start_most}
 use Rattle.em_tx.proofs.wire.Frames.let_go.Goals as goal
 

@@ -1,0 +1,81 @@
+# em_debug --profile adapter
+link up = ok
+w TDBAL 1000 = ok
+w TDLEN 100 = ok
+w TDT F = ok
+w TCTL 2 = ok
+# one descriptor has at most 16,288 octets, also for segments; DTALEN has 20 bits
+poke 1000 0020000000000000A03F102100000000 = ok
+tx = sent 0 16288
+poke 1010 0020000000000000A13F102100000000 = ok
+tx = refused TooLong
+poke 1010 00200000000000003C00112100000000 = ok
+tx = refused TooLong
+poke 1010 00200000000000003C00122100000000 = ok
+tx = refused TooLong
+poke 1010 00200000000000003C00142100000000 = ok
+tx = refused TooLong
+poke 1010 00200000000000003C00182100000000 = ok
+tx = refused TooLong
+poke 1010 0020000000000000A13F102500000000 = ok
+tx = refused TooLong
+# a frame that is sent whole has at most 16,380, which is asked of each of its descriptors
+poke 1010 0020000000000000A03F102000000000 = ok
+tx = fetched 1
+poke 1020 00200000000000005D00102100000000 = ok
+tx = refused TooLong
+poke 1020 00200000000000005D00102000000000 = ok
+tx = refused TooLong
+poke 1020 0000000000000000FFFF1F2000000000 = ok
+tx = fetched 2
+poke 1030 00200000000000005C00102100000000 = ok
+tx = sent 3 16380
+# one that becomes segments has at most 65,248: with 54 of headers and an MSS of 1,460 these are 45 segments (profile)
+poke 1040 0E18210022320000000000270036B405 = ok
+tx = fetched 4
+poke 1050 0020000000000000A03F102400000000 = ok
+tx = fetched 5
+poke 1060 0020000000000000A03F102400000000 = ok
+tx = fetched 6
+poke 1070 0020000000000000A03F102400000000 = ok
+tx = fetched 7
+poke 1080 0020000000000000A03F102400000000 = ok
+tx = fetched 8
+poke 1090 00200000000000006100102500000000 = ok
+tx = refused TooLong
+poke 1090 00200000000000006100102400000000 = ok
+tx = refused TooLong
+# for a frame that is sent whole these are too many, and so they are for a descriptor of the other format
+poke 1090 00200000000000000100102100000000 = ok
+tx = refused TooLong
+poke 1090 00200000000000000100000100000000 = ok
+tx = refused TooLong
+poke 1090 00200000000000006000102500000000 = ok
+tx = sent 9 67624
+r TPT = 0000002F
+# a segment has at most 16,380: 80 of headers, and an MSS of 16,301 (profile). A frame of 16,380 has no longer one
+poke 10A0 0E18210022320000000000270050AD3F = ok
+tx = fetched 10
+poke 10B0 0020000000000000A03F102400000000 = ok
+tx = fetched 11
+poke 10C0 00200000000000005D00102500000000 = ok
+tx = refused TooLong
+poke 10C0 00200000000000005C00102500000000 = ok
+tx = sent 12 16380
+poke 10D0 0E18210022320000000000270050AC3F = ok
+tx = fetched 13
+poke 10E0 0020000000000000A03F102400000000 = ok
+tx = fetched 14
+w TDT E = ok
+w TDH 0 = ok
+poke 1000 00200000000000005D00102500000000 = ok
+tx = sent 0 16461
+# an MSS of 0 cuts nothing, so that 16,380 are the most
+poke 1010 0E182100223200000000002700500000 = ok
+tx = fetched 1
+poke 1020 0020000000000000A03F102400000000 = ok
+tx = fetched 2
+poke 1030 00200000000000005D00102500000000 = ok
+tx = refused TooLong
+poke 1030 00200000000000005C00102500000000 = ok
+tx = sent 3 16380
