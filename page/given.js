@@ -60,7 +60,8 @@ class Given {
     this.frames = null;
     /** @type {[number, string, string]|null} */
     this.gathered = null;
-    this.isSent = false;
+    /** How many frames were sent. */
+    this.sent = 0;
     /** @type {boolean[]|null} */
     this.link = null;
     /** @type {boolean[]|null} */
@@ -114,7 +115,7 @@ const WORDS = {
   back: lettersOf(',"back":'), events: lettersOf(',"events":'), event: lettersOf('{"event":'),
   text: lettersOf(',"text":"'), registers: lettersOf(',"registers":['), memory: lettersOf(',"memory":['),
   frames: lettersOf(',"frames":['), stored: lettersOf(',"stored":"'), gathered: lettersOf(',"gathered":['),
-  sent: lettersOf(',"sent":"'), link: lettersOf(',"link":['), interrupt: lettersOf(',"interrupt":['),
+  sent: lettersOf(',"sent":"'), segments: lettersOf(',"sent":["'), link: lettersOf(',"link":['), interrupt: lettersOf(',"interrupt":['),
   offset: lettersOf(',"offset":'), register: lettersOf(',"register":"'), value: lettersOf(',"value":'),
   address: lettersOf(',"address":'), length: lettersOf(',"length":'), up: lettersOf(',"up":'),
   answer: lettersOf(',"answer":"'), reason: lettersOf(',"reason":"'), descriptor: lettersOf(',"descriptor":'),
@@ -319,10 +320,20 @@ class LineReader {
     if (this.is(WORDS.gathered)) this.gathered(given);
     if (this.is(WORDS.sent)) {
       this.digits();
-      given.isSent = true;
-    }
+      given.sent = 1;
+    } else if (this.is(WORDS.segments)) given.sent = this.segments();
     if (this.is(WORDS.link)) given.link = this.booleans();
     if (this.is(WORDS.interrupt)) given.interrupt = this.booleans();
+  }
+
+  /** The frames of a list, behind its first quotation mark; how many they are. @private */
+  segments() {
+    this.digits();
+    let count = 1;
+    for (; this.is(WORDS.next); count++) this.digits();
+    this.wantMark(CLOSED);
+    if (count < 2) this.isOdd = true;
+    return count;
   }
 
   /** @private */
@@ -446,6 +457,12 @@ class LineReader {
   }
 }
 
+/** The frames that an event sent, as digits. @returns {string[]} */
+const sentOf = (event) => event.sent === undefined ? [] : [event.sent].flat();
+
+/** Whether several frames are a list of digits. */
+const areSegments = (sent) => Array.isArray(sent) && sent.length > 1 && sent.every(isDigits);
+
 /** What a record says of an event that was read as JSON, whose form is right. @returns {Given} */
 function givenOf(event) {
   const given = new Given(event.event, event.kind);
@@ -464,7 +481,7 @@ function givenOf(event) {
   }
   const [kept, before, after] = event.gathered ?? [0, "", ""];
   if (event.gathered) given.gathered = [kept, before.toUpperCase(), after.toUpperCase()];
-  Object.assign(given, { frames: event.frames ?? null, isSent: event.sent !== undefined, link: event.link ?? null,
+  Object.assign(given, { frames: event.frames ?? null, sent: sentOf(event).length, link: event.link ?? null,
     interrupt: event.interrupt ?? null });
   return given;
 }
@@ -474,8 +491,9 @@ function formFault(event) {
   if (!EVENT_KINDS.has(event.kind)) return "is of no kind that there is";
   if (typeof event.text !== "string") return "has no text";
   if (!saysWhatItWas(event)) return "does not say what it was";
-  for (const field of ["stored", "sent"]) {
-    if (event[field] !== undefined && !isDigits(event[field])) return `has a ${field} frame that can’t be read`;
+  if (event.stored !== undefined && !isDigits(event.stored)) return "has a stored frame that can’t be read";
+  if (event.sent !== undefined && !isDigits(event.sent) && !areSegments(event.sent)) {
+    return "has a sent frame that can’t be read";
   }
   return registersForm(event.registers ?? []) || memoryForm(event.memory ?? NO_MEMORY) || restForm(event);
 }

@@ -23,7 +23,7 @@ const NO_MEMORY = [];
  * @property {[number, string, string]|null} gatheredChange how many of the gathered octets stayed; those behind them
  *   before and after
  * @property {string|null} stored the octets of the frame that came into the FIFO
- * @property {string|null} sent the octets of the frame that was sent
+ * @property {string[]} sent the octets of the frames that were sent
  * @property {boolean[]|null} linkChange
  * @property {boolean[]|null} interruptChange
  */
@@ -35,7 +35,7 @@ function changeOf(event) {
     text: event.text, registers: (event.registers ?? []).map(([name, old, value]) => [INDEX_OF.get(name), old, value]),
     memory: event.memory ?? NO_MEMORY, framesChange: event.frames ?? null,
     gatheredChange: event.gathered ? [kept, before.toUpperCase(), after.toUpperCase()] : null,
-    stored: event.stored ?? null, sent: event.sent ?? null, linkChange: event.link ?? null,
+    stored: event.stored ?? null, sent: sentOf(event), linkChange: event.link ?? null,
     interruptChange: event.interrupt ?? null,
   };
 }
@@ -101,7 +101,7 @@ class Places {
   }
 
   /** @private */
-  addState(number, before, { link, interrupt, frames, gathered, isSent }) {
+  addState(number, before, { link, interrupt, frames, gathered, sent }) {
     const signals = number ? this.signals.at(before) : 0;
     const isUp = link ? link[1] : signals & LINK, isOn = interrupt ? interrupt[1] : signals & INTERRUPT;
     this.signals.push((isUp ? LINK : 0) | (isOn ? INTERRUPT : 0));
@@ -111,7 +111,9 @@ class Places {
     this.frames.push(waits);
     this.mostFrames = Math.max(this.mostFrames, waits);
     this.arrival.push(waits > waited ? this.arrivals.add(number, arrival) : arrival);
-    this.sending.push(isSent ? this.sendings.add(number, sending) : sending);
+    let newest = sending;
+    for (let index = 0; index < sent; index++) newest = this.sendings.add(number, newest, index);
+    this.sending.push(newest);
     let text = number ? this.gathered.at(before) : 0;
     if (gathered) {
       const octets = this.gatheredTexts[text].slice(0, 2 * gathered[0]) + gathered[2];
@@ -275,16 +277,17 @@ class FrameList {
   /** @param {Places} places @param {"stored"|"sent"} field which has its octets in the record of its event */
   constructor(places, field) {
     Object.assign(this, { places, field });
-    /** By frame: its event, the frame before it, and the how manieth it is in that state. */
-    for (const column of ["event", "before", "count"]) {
+    /** By frame: its event, the frame before it, the how manieth it is in that state, and of its event, from 0. */
+    for (const column of ["event", "before", "count", "index"]) {
       this[column] = new Numbers(Uint32Array);
       this[column].push(0);
     }
   }
 
   /** Adds the next frame. @param {number} before the frame before it, or 0 @returns {number} its number */
-  add(event, before) {
+  add(event, before, index = 0) {
     this.event.push(event);
+    this.index.push(index);
     this.before.push(before);
     this.count.push(this.count.at(before) + 1);
     return this.event.length - 1;
@@ -299,7 +302,12 @@ class FrameList {
   digits(number) {
     const { places, field } = this, { lines, source } = places, event = this.event.at(number);
     const line = places.line(event), isAlone = lines.firsts.at(line - 1) === lines.lasts.at(line - 1);
-    return (isAlone ? source.frame(lines.record(line), field) : places.of(event)[field]) ?? null;
+    return (isAlone ? source.frame(lines.record(line), field) : null) ?? this.changed(places.of(event), number);
+  }
+
+  /** The same by what the event changed. @private @param {Change} change */
+  changed(change, number) {
+    return [change[this.field]].flat()[this.index.at(number)] ?? null;
   }
 }
 
@@ -325,6 +333,6 @@ class Frame {
 
   /** @returns {string|null} */
   get octets() {
-    return this.place.change[this.list.field];
+    return this.list.changed(this.place.change, this.number);
   }
 }

@@ -101,7 +101,7 @@ class Present {
     if (framesChange) item("frames", "frames in the FIFO", ...framesChange.map(String));
     if (gatheredChange) item("gathered", "octets gathered", String(place.before.gathered.length / 2),
       String(place.gathered.length / 2));
-    if (sent !== null) item("sent", "frames sent", String(place.sending.count - 1), String(place.sending.count));
+    if (sent.length) item("sent", "frames sent", String(place.sending.count - sent.length), String(place.sending.count));
     for (const [address, before] of memory) {
       const count = before.length / 2;
       const after = digitsOf(state.memory.octets(address, count));

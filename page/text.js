@@ -155,10 +155,11 @@ class LineSource {
     return this.newest.line;
   }
 
-  /** The digits of a frame of a line's only event are found in the text, and the line is not read. */
+  /** The digits of the one frame of a line's only event are found in the text, and the line is not read; null where it has
+   * several. */
   frame(index, field) {
     const text = recordText(...this.place(index)), mark = `"${field}":"`, from = text.indexOf(mark) + mark.length;
-    return from < mark.length ? this.line(index).events[0][field] : text.slice(from, text.indexOf('"', from));
+    return from < mark.length ? null : text.slice(from, text.indexOf('"', from));
   }
 
   /** The text of a line's only event behind its number; null where it is to be read. */

@@ -208,7 +208,7 @@ class TwoPanel {
     for (const [address, before, after] of memory) set(rangeText(address, before.length / 2), before, after);
     if (gatheredChange) set("octets gathered", gatheredChange[1] || "none", gatheredChange[2] || "none");
     if (stored !== null) told.set("frame that came", stored);
-    if (sent !== null) told.set("frame that was sent", sent);
+    if (sent.length) told.set(sent.length > 1 ? "frames that were sent" : "frame that was sent", sent.join(" "));
   }
 
   /** @private */

@@ -89,9 +89,14 @@ def holds(kind: str, word: str, step: Step, record: dict, is_last: bool) -> bool
     if kind == "source":
         return word.lower() in step.line.get("source", "").lower()
     if kind == "frame":
-        return any(word in event.get(field, "") and event[field].index(word) % 2 == 0 for field in ("stored", "sent"))
+        return any(word in frame and frame.index(word) % 2 == 0 for frame in frames_of(event))
     texts = [event.get("text", "")] + (texts_of(step.line, record) if is_last else [])
     return any(word.lower() in text.lower() for text in texts)
+
+
+def frames_of(event: dict) -> list[str]:
+    """The frame that an event stored, or those that it sent."""
+    return ([event["stored"]] if "stored" in event else []) + recorded.sent_of(event)
 
 
 def texts_of(line: dict, record: dict) -> list[str]:
@@ -131,7 +136,7 @@ def some_terms(r: random.Random, record: dict) -> list[tuple[str, str]]:
     access = r.choice([event for event in events if "register" in event])
     changed = r.choice([event for event in events if event.get("registers")])["registers"][0]
     line = r.randrange(1, len(record["script"]) + 1)
-    frames = [event[field] for event in events for field in ("stored", "sent") if field in event]
+    frames = [frame for event in events for frame in frames_of(event)]
     words = [text for text in record["script"] if len(text) > 4]
     terms = [("register", access["register"]), ("register", f"{access['register']} {access['value']:X}"),
              ("register", changed[0]), ("value", f"{changed[2]:08X}"), ("line", str(line)),

@@ -62,7 +62,7 @@ class Sight:
         for name in ("frames", "link", "interrupt"):
             if name in event:
                 self.rest[name] = event[name][1]
-        self.rest["sent"] += "sent" in event
+        self.rest["sent"] += len(recorded.sent_of(event))
         if "gathered" in event:
             kept, _, after = event["gathered"]
             self.rest["gathered"] = self.rest["gathered"][: 2 * kept] + after

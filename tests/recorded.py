@@ -40,6 +40,12 @@ def memory_pieces(before: State, after: State) -> list[list]:
     return pieces
 
 
+def sent_of(event: dict) -> list[str]:
+    """The frames that an event sent: a record has one as it is, and several as a list."""
+    sent = event.get("sent", [])
+    return [sent] if isinstance(sent, str) else sent
+
+
 def effect(number: int, was: dict, before: State, after: State) -> dict:
     """What the event was and did, in the order of the format's fields."""
     made = {"event": number} | noted(was)
@@ -59,8 +65,8 @@ def effect(number: int, was: dict, before: State, after: State) -> dict:
     if before.gathered != after.gathered:
         kept = len(before.gathered) if after.gathered.startswith(before.gathered) else 0
         made["gathered"] = [kept, *(octets[kept:].hex().upper() for octets in (before.gathered, after.gathered))]
-    if len(after.wire) > len(before.wire):
-        made["sent"] = after.wire[-1].hex().upper()
+    if sent := [frame.hex().upper() for frame in after.wire[len(before.wire) :]]:
+        made["sent"] = sent if len(sent) > 1 else sent[0]
     if before.link != after.link:
         made["link"] = [before.link, after.link]
     if interrupts(before) != interrupts(after):

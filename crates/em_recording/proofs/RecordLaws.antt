@@ -7,7 +7,7 @@ use Rattle.em_recording.specs.Effects.{AreOctetSteps, AreRegisterSteps, Does, bi
 use Rattle.em_recording.specs.Rebuild.{IsRecordOf, sent_of}
 use Rattle.em_recording.specs.Shown.{shown_in}
 use Rattle.em_recording.specs.Steps.{step_after, step_before}
-use Rattle.em_recording.specs.Wire.{IsFrameOf}
+use Rattle.em_recording.specs.Wire.{AreFramesOf}
 use Rattle.em_recording.specs.Gathered.{IsGatheredStep}
 use Rattle.em_recording.specs.declared.recorded.Step.{Step}
 use Rattle.em_recording.specs.declared.recorded.Recorded.{Recorded}
@@ -22,7 +22,7 @@ pub record HasParts (v : View) (back : ℕ) (r : Recorded) : Type 0 where
   pub frames : (did : Option Difference) × Does Frames v back did × (r.frames ≡ step_of count_in did)
   pub link : (did : Option Difference) × Does Link v back did × (r.link ≡ step_of bit_in did)
   pub line : (did : Option Difference) × Does Line v back did × (r.line ≡ step_of bit_in did)
-  pub sent : IsFrameOf v back (sent_of r)
+  pub sent : AreFramesOf v back (sent_of r)
   pub gathered : IsGatheredStep v back r.gathered
 
 pub is_record_of : (v : View) (back : ℕ) (r : Recorded) → HasParts v back r → IsRecordOf v back r

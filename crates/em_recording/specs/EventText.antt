@@ -4,7 +4,6 @@ use Rattle.std.specs.List.{flat_map}
 use Rattle.em_names.specs.Names.{name_of}
 use Rattle.em_trail.specs.declared.note.Note.{Note}
 use Rattle.em_watch.specs.declared.octets.MemoryChange.{MemoryChange}
-use Rattle.em_recording.specs.Rebuild.{sent_of}
 use Rattle.em_json.specs.Text.{flag_text, number_text, numbers_text, octets_text}
 use Rattle.em_recording.specs.declared.recorded.GatheredStep.{GatheredStep}
 use Rattle.em_recording.specs.declared.recorded.Recorded.{Recorded}
@@ -37,6 +36,11 @@ abbrev pub frame_text : List ℕ → Option (List ℕ) → List ℕ
 frame_text before None = []
 frame_text before (Some frame) = octets_text before frame
 
+-- the frames that were sent: one as a text, several as a list of texts
+abbrev pub sent_text : {F : Type 0} → (F → List ℕ) → List F → List ℕ
+sent_text text (frame ∷ []) = codes ",\"sent\":" ++ text frame
+sent_text text frames = list_text text (codes ",\"sent\":[") frames
+
 -- the gathered octets: how many of the first stay, and those behind them before and after
 abbrev pub gathered_text : Option GatheredStep → List ℕ
 gathered_text None = []
@@ -62,5 +66,5 @@ event_text number note r stored =
     ++ (frames_text r.frames
     ++ (frame_text (codes ",\"stored\":") stored
     ++ (gathered_text r.gathered
-    ++ (frame_text (codes ",\"sent\":") (sent_of r)
+    ++ (sent_text (λ frame. octets_text [] frame.items) r.sent.items
     ++ (ways_text r ++ codes "}\n"))))))))

@@ -1,6 +1,5 @@
 -- Rebuilding what a machine showed from the record of an event: forwards, and backwards.
-use Rattle.std.specs.Prelude.{◌≡◌, ℕ, ◌-◌, List, Option, Some, slice_get}
-use Rattle.std.specs.Option.{option_map}
+use Rattle.std.specs.Prelude.{◌≡◌, ℕ, ◌-◌, List, map, Some, slice_get}
 use Rattle.em_step.specs.State.{State}
 use Rattle.em_journal.specs.View.{View, states}
 use Rattle.em_recording.specs.Shown.{Shown, shown_in}
@@ -9,9 +8,9 @@ use Rattle.em_recording.specs.Gathered.{gathered_after, gathered_before}
 use Rattle.em_recording.specs.Steps.{octet_at, step_after, step_before, value_at}
 use Rattle.em_recording.specs.declared.recorded.Recorded.{Recorded}
 
--- the octets of the frame that a record has
-abbrev pub sent_of : Recorded → Option (List ℕ)
-sent_of r = option_map (λ frame. frame.items) r.sent
+-- the octets of the frames that a record has
+abbrev pub sent_of : Recorded → List (List ℕ)
+sent_of r = map (λ frame. frame.items) r.sent.items
 
 -- what is shown after the event, from what was shown before it
 abbrev pub put_on : Recorded → Shown → Shown

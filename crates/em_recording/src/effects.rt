@@ -3,7 +3,7 @@ ghost use Rattle.std.specs.Prelude.{◌≡◌, ◌<◌, ◌≤◌, ◌-◌, leng
 ghost use Rattle.std.specs.Option.{option_map};
 ghost use Rattle.em_recording.specs.Effects.{AreOctetSteps, AreRegisterSteps, bit_in, count_in, step_of, value_in};
 ghost use Rattle.em_recording.specs.Rebuild.{IsRecordOf};
-ghost use Rattle.em_recording.specs.Wire.{HasSent, IsFrameOf, SentAt};
+ghost use Rattle.em_recording.specs.Wire.{AreFramesOf, HasSent, SentAt};
 
 use crate::copied::copied;
 use crate::gathered::gathered_of;
@@ -26,7 +26,7 @@ pub fn record_of(alloc: Global, machine: &Machine, back: usize) -> Result<Record
     let registers = registers_of(alloc, &effect)?;
     let octets = octets_of(alloc, &effect)?;
     let after = Sending::until(alloc, machine, back - 1)?;
-    let sent = frame_of(alloc, machine, back, after.sent)?;
+    let sent = frames_of(alloc, machine, back, after.sent)?;
     let gathered = gathered_of(alloc, machine, back, after)?;
     Ok(Recorded {
         registers,
@@ -120,30 +120,32 @@ fn bits_of(did: Option<Difference>) -> Option<Step<bool>>
     }
 }
 
-/// The frame that an event sent, if it sent one. It is the one before which so many steps back lead; `sent` frames were
-/// sent until after it.
-fn frame_of(
+/// The frames that an event sent. It is the one before which so many steps back lead; `sent` frames were sent until after
+/// it.
+fn frames_of(
     alloc: Global,
     machine: &Machine,
     back: usize,
     sent: usize,
-) -> Result<Option<Vec<u8>>, AllocError>
+) -> Result<Vec<Vec<u8>>, AllocError>
     requires some { 0 < back }
     requires there { back ≤ length machine.now.past }
     requires sent { HasSent machine.now (back - 1) sent }
-    ensures ok { IfOk result (λ sent. IsFrameOf machine.now back (option_map (λ frame. frame.items) sent)) }
+    ensures ok { IfOk result (λ frames. AreFramesOf machine.now back (map (λ frame. frame.items) frames.items)) }
 {
-    if !has_sent(machine, back - 1) {
-        return Ok(None);
+    let mut frames = Vec::new(alloc);
+    let first = sent - sent_by(machine, back - 1);
+    for index in first..sent {
+        let Some(frame) = machine.wire_frame(index) else {
+            unreachable!();
+        };
+        frames.push(copied(alloc, frame)?)?;
     }
-    match machine.wire_frame(sent - 1) {
-        Some(frame) => Ok(Some(copied(alloc, frame)?)),
-        None => unreachable!(),
-    }
+    Ok(frames)
 }
 
-/// Whether the event sent a frame that k steps back lead to.
-fn has_sent(machine: &Machine, k: usize) -> bool
+/// How many frames the event sent that k steps back lead to.
+fn sent_by(machine: &Machine, k: usize) -> usize
     requires there { k < length machine.now.past }
     ensures { SentAt machine.now k result }
 {

@@ -1,11 +1,11 @@
 //! An event's record as JSON.
-ghost use Rattle.std.specs.Prelude.{◌++◌, Some, codes};
+ghost use Rattle.std.specs.Prelude.{◌++◌, [], Some, codes};
 ghost use Rattle.std.specs.List.{flat_map};
 ghost use Rattle.std.specs.Option.{option_map};
 ghost use Rattle.em_text.specs.Writer.{Writes};
 ghost use Rattle.em_recording.specs.EventText.{change_text, event_text, frame_text, frames_text, gathered_text, list_text};
-ghost use Rattle.em_recording.specs.EventText.{register_text, way_text, ways_text};
-ghost use Rattle.em_recording.specs.Rebuild.{sent_of};
+ghost use Rattle.em_recording.specs.EventText.{register_text, sent_text, way_text, ways_text};
+ghost use Rattle.em_json.specs.Text.{octets_text};
 
 use crate::recorded::{GatheredStep, OctetStep, Recorded, RegisterStep, Step};
 use crate::was::write_was;
@@ -34,7 +34,7 @@ pub fn write_event<W: Write>(
     write_frames(writer, recorded.frames)?;
     write_frame(writer, b",\"stored\":", stored)?;
     write_gathered(writer, recorded)?;
-    write_sent(writer, recorded)?;
+    write_sent(writer, recorded.sent.as_slice())?;
     write_ways(writer, recorded)?;
     write_whole(writer, b"}\n")
 }
@@ -157,14 +157,54 @@ fn write_gathered_step<W: Write>(writer: &mut W, step: &GatheredStep) -> Result<
     write_whole(writer, b"]")
 }
 
-fn write_sent<W: Write>(writer: &mut W, recorded: &Recorded) -> Result<(), WriteFailed>
+/// Writes the frames that were sent: one as it is, several as a list.
+fn write_sent<W: Write>(writer: &mut W, frames: &[Vec<u8>]) -> Result<(), WriteFailed>
     ensures writes { Writes (W.contents writer.old) (W.contents writer.new) result
-        (frame_text (codes ",\"sent\":") (sent_of recorded.now)) }
+        (sent_text (λ frame. octets_text [] frame.items) frames.now) }
 {
-    match &recorded.sent {
-        Some(frame) => write_hex(writer, b",\"sent\":", frame.as_slice()),
-        None => Ok(()),
+    match frames {
+        [frame] => write_one(writer, frame),
+        _ => write_several(writer, frames),
     }
+}
+
+fn write_one<W: Write>(writer: &mut W, frame: &Vec<u8>) -> Result<(), WriteFailed>
+    ensures writes { Writes (W.contents writer.old) (W.contents writer.new) result
+        (codes ",\"sent\":" ++ octets_text [] frame.now.items) }
+{
+    write_hex(writer, b",\"sent\":", frame.as_slice())
+}
+
+/// Writes frames as a list, if there are any.
+fn write_several<W: Write>(writer: &mut W, frames: &[Vec<u8>]) -> Result<(), WriteFailed>
+    ensures writes { Writes (W.contents writer.old) (W.contents writer.new) result
+        (list_text (λ frame. octets_text [] frame.items) (codes ",\"sent\":[") frames.now) }
+{
+    let Some((first, others)) = frames.split_first() else {
+        return Ok(());
+    };
+    write_whole(writer, b",\"sent\":[")?;
+    write_hex(writer, b"", first.as_slice())?;
+    write_other_frames(writer, others)?;
+    write_whole(writer, b"]")
+}
+
+/// Writes frames, each behind a comma.
+fn write_other_frames<W: Write>(writer: &mut W, frames: &[Vec<u8>]) -> Result<(), WriteFailed>
+    ensures writes { Writes (W.contents writer.old) (W.contents writer.new) result
+        (flat_map (λ frame. codes "," ++ octets_text [] frame.items) frames.now) }
+{
+    for frame in frames {
+        write_other_frame(writer, frame)?;
+    }
+    Ok(())
+}
+
+fn write_other_frame<W: Write>(writer: &mut W, frame: &Vec<u8>) -> Result<(), WriteFailed>
+    ensures writes { Writes (W.contents writer.old) (W.contents writer.new) result
+        (codes "," ++ octets_text [] frame.now.items) }
+{
+    write_hex(writer, b",", frame.as_slice())
 }
 
 fn write_frame<W: Write>(

@@ -41,8 +41,8 @@ pub struct Recorded {
     pub frames: Option<Step<usize>>,
     /// The octets that are gathered for the next frame to be sent.
     pub gathered: Option<GatheredStep>,
-    /// The frame that was sent.
-    pub sent: Option<Vec<u8>>,
+    /// The frames that were sent, the first one first: one, or the segments of a long one.
+    pub sent: Vec<Vec<u8>>,
     /// Whether the link was up.
     pub link: Option<Step<bool>>,
     /// Whether the interrupt line was asserted.

@@ -47,9 +47,7 @@ impl Sending {
             unreachable!();
         };
         past.gathered_before(&mut self.gathered, last)?;
-        if past.takes_off_wire() {
-            self.sent -= 1;
-        }
+        self.sent -= past.takes_off_wire();
         Ok(())
     }
 }

@@ -1,9 +1,9 @@
-use Rattle.std.proofs.Common.{◌≡◌, ◌∙◌, ap, arith, rules, subst}
+use Rattle.std.proofs.Common.{◌≡◌, ◌∙◌, ap, arith, false, rules, subst, sym}
 use Rattle.em_tx.specs.Cells.{MorePages, cells, shows as shown}
 use Rattle.em_tx.specs.Engine.{Refuses}
 use Rattle.em_step.specs.Undo.{tx_cells_of}
 use Rattle.em_step.specs.Cells.{Cells, shows}
-use Rattle.em_step.specs.Engines.{tx_refused}
+use Rattle.em_step.specs.Engines.{has_extended, tx_refused}
 use Rattle.em_step.proofs.ResultLaws.{not_sent, refused_by}
 use Rattle.em_tx.specs.TxStep.{answer_of}
 use Rattle.em_tx.specs.declared.answer.TxStep.{TxStep}
@@ -55,7 +55,8 @@ returns-in_err-transmit-clause-err c =
     let err = subst (λ (x : Cells). Refuses q x.memory.base (shown (tx_cells_of x)) refused) is e.err in
     let after = cells c.transmit.new.gather c.transmit.new.wire c.transmit.new.memory in
     let more = subst (λ (x : Cells). MorePages (tx_cells_of x) after) is e.same in
-    let why = tx_refuses (shows was) q refused c.requires c.tx_control-control.ensures err in
+    let none : has_extended (shows was) ≡ false = sym c.has_extended.ensures.value ∙ c.if-has_extended.false in
+    let why = tx_refuses (shows was) q refused none c.tx_control-control.ensures err in
     refused_by c.from_residual.result c.from_residual.ensures.1
     (not_sent was _ (tx_refused refused) why more
     (ap (λ (x : Cells). x.registers) is) (ap (λ (x : Cells). x.latches) is) (ap (λ (x : Cells). x.fifo) is)

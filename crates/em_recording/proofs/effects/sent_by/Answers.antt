@@ -1,5 +1,5 @@
 use Rattle.em_recording.proofs.WireLaws.{sent_at}
-use Rattle.em_recording.proofs.effects.has_sent.Goals as goal
+use Rattle.em_recording.proofs.effects.sent_by.Goals as goal
 
 pub returns : goal.returns
 returns c =
