@@ -3,7 +3,7 @@ use Rattle.std.proofs.Common.{◌≡◌, ◌∙◌, ℕ, List, [], ◌∷◌, �
 use Rattle.std.proofs.lemmas.List.{map-append}
 use Rattle.std.specs.Prelude.{IfSome, IfNone}
 use Rattle.em_journal.specs.View.{View}
-use Rattle.em_looks.specs.Effects.{Does}
+use Rattle.em_inspect.specs.Effects.{Does}
 use Rattle.em_watch.specs.Difference.{IsDifference, LeavesAsItIs}
 use Rattle.em_watch.specs.declared.difference.Difference.{Difference}
 use Rattle.em_watch.specs.declared.watch.Watch.{Watch}

@@ -4,7 +4,7 @@ use Rattle.std.specs.Prelude.{Option, Some, None, Result, Ok, Err}
 use Rattle.std.specs.Iterator.{Drains}
 use Rattle.em_regs.specs.Table.{offset_of}
 use Rattle.em_journal.specs.View.{View}
-use Rattle.em_looks.specs.Effects.{Does}
+use Rattle.em_inspect.specs.Effects.{Does}
 use Rattle.em_watch.specs.MemorySearch.{GivesOctets}
 use Rattle.em_watch.specs.RegisterSearch.{GivesRegister}
 use Rattle.em_watch.specs.declared.difference.Difference.{Difference}

@@ -9,9 +9,9 @@ use Rattle.em_reasons.specs.declared.rx_idle.RxIdle.{RxIdle}
 use Rattle.em_reasons.specs.declared.rx_idle.RxIdle.TheVariants as rx
 use Rattle.em_reasons.specs.declared.tx_idle.TxIdle.{TxIdle}
 use Rattle.em_reasons.specs.declared.tx_idle.TxIdle.TheVariants as tx
-use Rattle.em_explain.specs.declared.why.Why.{Why}
-use Rattle.em_explain.specs.declared.why.Why.TheVariants as why
-use Rattle.em_explain.specs.Explain.{why_text}
+use Rattle.em_reasons.specs.declared.why.Why.{Why}
+use Rattle.em_reasons.specs.declared.why.Why.TheVariants as why
+use Rattle.em_reasons.specs.Explain.{why_text}
 use Rattle.em_c.specs.declared.reason.EmReason.{EmReason}
 use Rattle.em_c.specs.declared.rule.Rule.TheVariants as rule
 use Rattle.em_c.specs.Told.{address_told}

@@ -3,9 +3,9 @@ use Rattle.std.specs.Prelude.{◌≡◌, ◌⊎◌, ◌<◌, ◌≤◌, ℕ, ◌
 use Rattle.em_step.specs.State.{State}
 use Rattle.em_journal.specs.View.{View}
 use Rattle.em_inspect.specs.declared.ring.SidedRing.{SidedRing}
-use Rattle.em_looks.specs.Effects.{TellsEffect}
-use Rattle.em_looks.specs.Frames.{waiting_text}
-use Rattle.em_looks.specs.Views.{window_text}
+use Rattle.em_inspect.specs.Effects.{TellsEffect}
+use Rattle.em_inspect.specs.Frames.{waiting_text}
+use Rattle.em_inspect.specs.Views.{window_text}
 use Rattle.em_c.specs.declared.refused.Refused.{Refused}
 use Rattle.em_c.specs.declared.refused.Refused.TheVariants.{Memory, NoEvent, NoMachine}
 use Rattle.em_c.specs.declared.tagged.Tagged.{Tagged}

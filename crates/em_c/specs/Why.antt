@@ -8,9 +8,9 @@ use Rattle.em_step.specs.declared.event.Reason.TheVariants as reason
 use Rattle.em_step.specs.declared.refusal.Refusal.{Refusal}
 use Rattle.em_step.specs.declared.refusal.Refusal.TheVariants as refusal
 use Rattle.em_journal.specs.View.{View}
-use Rattle.em_explain.specs.Undone.{undone_of}
-use Rattle.em_explain.specs.Why.{IsWhyOf}
-use Rattle.em_explain.specs.declared.why.Why.{Why}
+use Rattle.em_reasons.specs.Undone.{undone_of}
+use Rattle.em_reasons.specs.Why.{IsWhyOf}
+use Rattle.em_reasons.specs.declared.why.Why.{Why}
 use Rattle.em_c.specs.declared.note.EmNote.{EmNote}
 use Rattle.em_c.specs.declared.reason.EmReason.{EmReason}
 use Rattle.em_c.specs.declared.refused.Refused.{Refused}

@@ -1,6 +1,6 @@
 //! The reason why an event did nothing, as C sees it.
 ghost use Rattle.std.specs.Prelude.{◌≡◌, IfOk, IfErr};
-ghost use Rattle.em_explain.specs.Explain.{why_text};
+ghost use Rattle.em_reasons.specs.Explain.{why_text};
 ghost use Rattle.em_c.specs.Told.{address_told};
 ghost use Rattle.em_c.specs.Line.{IsTold};
 ghost use Rattle.em_c.specs.Reason as the;
@@ -11,8 +11,7 @@ use crate::refused::Refused;
 use crate::rule::Rule;
 use crate::told::address_told;
 use arrayvec::ArrayVec;
-use em_explain::Why;
-use em_reasons::{Bounds, Dropped, Refused as WhyRefused, RxIdle, TxIdle};
+use em_reasons::{Bounds, Dropped, Refused as WhyRefused, RxIdle, TxIdle, Why};
 
 /// How many octets an Ethernet address has.
 const ADDRESS: usize = 6;

@@ -8,9 +8,8 @@ use crate::handle::EmMachine;
 use crate::refused::{Refused, number};
 use crate::rings::sided;
 use crate::room::lay_text;
-use em_inspect::{MOST_SHOWN, write_ring};
+use em_inspect::{MOST_SHOWN, show_waiting, write_effect, write_ring};
 use em_journal::Machine;
-use em_looks::{show_waiting, write_effect};
 use std::alloc::Global;
 
 /// A ring as text: a line of what the registers say, and a line for each of up to 64 descriptors around the head.

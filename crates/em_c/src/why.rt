@@ -2,8 +2,8 @@
 ghost use Rattle.std.specs.Prelude.{◌≡◌, Result};
 ghost use Rattle.std.specs.Option.{option_map};
 ghost use Rattle.em_step.specs.Event.{plain};
-ghost use Rattle.em_explain.specs.Undone.{undone_of};
-ghost use Rattle.em_explain.specs.Why.{IsWhyOf};
+ghost use Rattle.em_reasons.specs.Undone.{undone_of};
+ghost use Rattle.em_reasons.specs.Why.{IsWhyOf};
 ghost use Rattle.em_c.specs.Refused.{Shows};
 ghost use Rattle.em_c.specs.Why as the;
 
@@ -11,8 +11,8 @@ use crate::handle::EmMachine;
 use crate::note::EmNote;
 use crate::reason::EmReason;
 use crate::refused::{Refused, tell};
-use em_explain::{Why, why_of};
 use em_journal::Machine;
+use em_reasons::{Why, why_of};
 use em_step::{Answer, Event, Reason, Refusal};
 
 /// Why an event did nothing: a step that was idle, a frame that was dropped, an event that a call refused with the

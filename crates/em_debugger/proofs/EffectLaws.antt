@@ -10,7 +10,7 @@ use Rattle.em_trail.specs.declared.note.Note.{Note}
 use Rattle.em_named.specs.Numbers.{end_of}
 use Rattle.em_tape.specs.Tape.{Tape, behind, event_at}
 use Rattle.em_text.proofs.WritingLemmas.{Appends-more}
-use Rattle.em_looks.specs.Effects.{TellsEffect, WritesSuch}
+use Rattle.em_inspect.specs.Effects.{TellsEffect, WritesSuch}
 use Rattle.em_debugger.specs.declared.debugger.Debugger.{Debugger}
 use Rattle.em_debugger.specs.Marks.{marks_of}
 use Rattle.em_debugger.specs.Who.{event_text}

@@ -5,13 +5,13 @@ use Rattle.em_step.specs.Event.{Event}
 use Rattle.em_step.specs.State.{State}
 use Rattle.em_step.specs.declared.event.Answer.{Answer}
 use Rattle.em_step.specs.declared.refusal.Refusal.{Refusal}
-use Rattle.em_explain.specs.Explain.{Explains}
-use Rattle.em_explain.specs.Looked.{LookedAt}
-use Rattle.em_explain.specs.Undone.{is_undone, undone_of}
-use Rattle.em_explain.specs.Why.{IsWhyOf}
-use Rattle.em_explain.specs.declared.why.Why.{Why}
-use Rattle.em_explain.proofs.WhyLaws.{no_event_asked}
-use Rattle.em_looks.specs.Effects.{WritesSuch}
+use Rattle.em_reasons.specs.Explain.{Explains}
+use Rattle.em_reasons.specs.Looked.{LookedAt}
+use Rattle.em_reasons.specs.Undone.{is_undone, undone_of}
+use Rattle.em_reasons.specs.Why.{IsWhyOf}
+use Rattle.em_reasons.specs.declared.why.Why.{Why}
+use Rattle.em_reasons.proofs.WhyLaws.{no_event_asked}
+use Rattle.em_inspect.specs.Effects.{WritesSuch}
 use Rattle.em_reasons.specs.declared.look.Look.{Look}
 use Rattle.em_debugger.specs.Reading.{undone_event}
 

@@ -3,7 +3,7 @@ use Rattle.std.proofs.Common.{◌≡◌, ◌≢◌, ℕ, ◌<◌, ◌≤◌, con
 use Rattle.std.proofs.lemmas.Bool.{lt-ltb, le-ltb, ne_eqb}
 use Rattle.std.specs.Prelude.{OnOk, IsTrue}
 use Rattle.std.specs.Io.KnownBytes.{Appends}
-use Rattle.em_looks.specs.Effects.{WritesSuch}
+use Rattle.em_inspect.specs.Effects.{WritesSuch}
 use Rattle.em_text.specs.Writer.{Writes}
 use Rattle.em_text.proofs.WritingLemmas.{Appends-more}
 

@@ -3,10 +3,10 @@ use Rattle.std.proofs.Common.{◌≡◌, ◌==◌, ℕ, zero, suc, ◌-◌, ◌<
 use Rattle.std.specs.Prelude.{bit_and, codes, get_or, IfErr, IfOk, Option, Some, Result, Ok, Err}
 use Rattle.std.proofs.lemmas.Bool.Decides.{nat_tests}
 use Rattle.std.proofs.lemmas.List.{take_all}
-use Rattle.em_explain.specs.Undone.{undone_by}
-use Rattle.em_explain.specs.Why.{IsWhyOf, why_looks}
-use Rattle.em_explain.specs.declared.why.Why.{Why}
-use Rattle.em_explain.specs.declared.why.Why.TheVariants.{RxIdle, TxIdle, Dropped, Refused}
+use Rattle.em_reasons.specs.Undone.{undone_by}
+use Rattle.em_reasons.specs.Why.{IsWhyOf, why_looks}
+use Rattle.em_reasons.specs.declared.why.Why.{Why}
+use Rattle.em_reasons.specs.declared.why.Why.TheVariants.{RxIdle, TxIdle, Dropped, Refused}
 use Rattle.em_journal.specs.History.{Does, WasJournalled, refuses}
 use Rattle.em_journal.specs.View.{View}
 use Rattle.em_prompt.specs.declared.typed.Side.{Side}

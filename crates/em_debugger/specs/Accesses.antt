@@ -14,7 +14,7 @@ use Rattle.em_trail.specs.declared.note.Note.{Note}
 use Rattle.em_trail.specs.declared.note.Kind.{Kind}
 use Rattle.em_trail.specs.declared.note.Kind.TheVariants as kind
 use Rattle.em_tape.specs.Tape.{Tape, event_at, event_of}
-use Rattle.em_looks.specs.Numbers.{number_text}
+use Rattle.em_inspect.specs.Numbers.{number_text}
 use Rattle.em_prompt.specs.declared.typed.Target.{Target}
 use Rattle.em_prompt.specs.declared.typed.Target.TheVariants as target
 use Rattle.em_debugger.specs.declared.accesses.Ended.{Ended}

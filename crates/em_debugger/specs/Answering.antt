@@ -3,8 +3,8 @@ use Rattle.std.specs.Prelude.{◌≡◌, ◌≤◌, ℕ, Bool, true, false, List
 use Rattle.em_regs.specs.declared.reg.Reg.{Reg}
 use Rattle.em_console.specs.declared.session.Flow.{Flow}
 use Rattle.em_console.specs.declared.session.Flow.TheVariants.{Goes, Ends}
-use Rattle.em_looks.specs.Frames.{waiting_text, sent_text}
-use Rattle.em_looks.specs.Views.{register_text, ring_text, memory_text}
+use Rattle.em_inspect.specs.Frames.{waiting_text, sent_text}
+use Rattle.em_inspect.specs.Views.{register_text, ring_text, memory_text}
 use Rattle.em_text.specs.Words.{words_of}
 use Rattle.em_line.specs.Parts.{said_in}
 use Rattle.em_prompt.specs.BenchLine.{BenchLine}

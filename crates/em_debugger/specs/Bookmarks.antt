@@ -5,7 +5,7 @@ use Rattle.std.specs.List.{flat_map, position_or_len}
 use Rattle.std.specs.Option.{option_map}
 use Rattle.std.specs.Str.{bytes_eq}
 use Rattle.em_named.specs.Numbers.{end_of}
-use Rattle.em_looks.specs.Numbers.{number_text}
+use Rattle.em_inspect.specs.Numbers.{number_text}
 use Rattle.em_tape.specs.Tape.{event_of}
 use Rattle.em_debugger.specs.declared.bookmarks.Bookmark.{Bookmark}
 use Rattle.em_debugger.specs.declared.debugger.Debugger.{Debugger}

@@ -2,7 +2,7 @@
 use Rattle.std.specs.Prelude.{◌≡◌, ℕ, zero, suc, ◌<◌, ◌≤◌, List, [], ◌∷◌, codes, length, map, take, true}
 use Rattle.em_journal.specs.Settings.{new_machine}
 use Rattle.em_journal.specs.declared.settings.Settings.{Settings}
-use Rattle.em_looks.specs.Numbers.{number_text}
+use Rattle.em_inspect.specs.Numbers.{number_text}
 use Rattle.em_named.specs.declared.did.Did.{Did}
 use Rattle.em_named.specs.declared.did.Did.TheVariants.{Performed, TookBack}
 use Rattle.em_script.specs.Session.{bare}

@@ -5,8 +5,8 @@ use Rattle.em_tape.specs.Tape.{Tape, behind, event_at, event_of}
 use Rattle.em_journal.specs.View.{states}
 use Rattle.em_trail.specs.Trail.{TellsAt}
 use Rattle.em_trail.specs.declared.note.Note.{Note}
-use Rattle.em_looks.specs.Effects.{TellsEffect}
-use Rattle.em_looks.specs.Numbers.{number_text}
+use Rattle.em_inspect.specs.Effects.{TellsEffect}
+use Rattle.em_inspect.specs.Numbers.{number_text}
 use Rattle.em_debugger.specs.declared.debugger.Debugger.{Debugger}
 use Rattle.em_debugger.specs.declared.deeper.Unseen.{Unseen}
 use Rattle.em_debugger.specs.declared.deeper.Unseen.TheVariants.{Memory, TooLong}

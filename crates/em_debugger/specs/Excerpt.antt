@@ -1,7 +1,7 @@
 -- Lines of the script: those around the place or around another line, or those from one to another.
 use Rattle.std.specs.Prelude.{ℕ, ◌+◌, ◌-◌, ◌==◌, max, min, nat_le, if◌then◌else◌, List, [], ◌++◌, codes, length}
 use Rattle.std.specs.List.{flat_map, range_with_len}
-use Rattle.em_looks.specs.Numbers.{counted_text, number_text, short_text}
+use Rattle.em_inspect.specs.Numbers.{counted_text, number_text, short_text}
 use Rattle.em_prompt.specs.declared.typed.Lines.{Lines}
 use Rattle.em_prompt.specs.declared.typed.Lines.TheVariants.{Here, Around, Between}
 use Rattle.em_debugger.specs.declared.debugger.Debugger.{Debugger}

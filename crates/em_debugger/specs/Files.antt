@@ -7,7 +7,7 @@ use Rattle.em_line.specs.Grammar.{parsed_line}
 use Rattle.em_line.specs.ParsedLine.{is_read}
 use Rattle.em_script.specs.declared.fault.BenchFault.{BenchFault}
 use Rattle.em_script.specs.declared.fault.BenchFault.TheVariants as fault
-use Rattle.em_looks.specs.Numbers.{counted_text}
+use Rattle.em_inspect.specs.Numbers.{counted_text}
 use Rattle.em_debugger.specs.declared.debugger.Debugger.{Debugger}
 use Rattle.em_debugger.specs.declared.files.Added.{Added}
 use Rattle.em_tape.specs.Tape.{Tape}

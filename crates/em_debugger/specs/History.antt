@@ -10,7 +10,7 @@ use Rattle.em_trail.specs.Trail.{TellsAt}
 use Rattle.em_trail.specs.declared.note.Note.{Note}
 use Rattle.em_noted.specs.Note.{note_text}
 use Rattle.em_tape.specs.Tape.{Tape, event_of, line_at}
-use Rattle.em_looks.specs.Numbers.{number_text, short_text}
+use Rattle.em_inspect.specs.Numbers.{number_text, short_text}
 use Rattle.em_debugger.specs.Marks.{marks_of, shown_of, source_at, source_text}
 use Rattle.em_debugger.specs.declared.debugger.Debugger.{Debugger}
 use Rattle.em_debugger.specs.Debugger.{told}

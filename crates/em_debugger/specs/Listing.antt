@@ -4,7 +4,7 @@ use Rattle.std.specs.List.{flat_map}
 use Rattle.em_console.specs.Turns.{Leads}
 use Rattle.em_script.specs.declared.fault.BenchFault.{BenchFault}
 use Rattle.em_text.specs.Lines.{lines_of}
-use Rattle.em_looks.specs.Numbers.{short_text}
+use Rattle.em_inspect.specs.Numbers.{short_text}
 use Rattle.em_debugger.specs.declared.debugger.Debugger.{Debugger}
 use Rattle.em_debugger.specs.declared.performing.Performed.{Performed}
 use Rattle.em_debugger.specs.Marks.{marks_of, shown_of, source_at, source_text}

@@ -2,7 +2,7 @@
 use Rattle.std.specs.Prelude.{ℕ, ◌==◌, ◌||◌, if◌then◌else◌, List, [], ◌++◌, Option, Some, None, codes, is_some, length, unwrap_or}
 use Rattle.em_frames.specs.Moment.{time_in}
 use Rattle.em_line.specs.Parts.{comment_in, said_in, source_in}
-use Rattle.em_looks.specs.Numbers.{number_text}
+use Rattle.em_inspect.specs.Numbers.{number_text}
 use Rattle.em_prompt.specs.BenchLine.{BenchLine}
 use Rattle.em_regs.specs.declared.profile.Profile.{Profile}
 use Rattle.em_prompt.specs.Scripted.{scripted}

@@ -6,7 +6,7 @@ use Rattle.em_trail.specs.Trail.{TellsAt}
 use Rattle.em_trail.specs.declared.note.Note.{Note}
 use Rattle.em_named.specs.Numbers.{line_of}
 use Rattle.em_tape.specs.Tape.{IsNear, Tape, event_at, event_of, reached, taken_back}
-use Rattle.em_looks.specs.Numbers.{number_text}
+use Rattle.em_inspect.specs.Numbers.{number_text}
 use Rattle.em_debugger.specs.declared.debugger.Debugger.{Debugger}
 use Rattle.em_debugger.specs.Debugger.{KeepsRest}
 use Rattle.em_debugger.specs.Marks.{line_number_text, marks_of}

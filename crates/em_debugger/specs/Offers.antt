@@ -9,7 +9,7 @@ use Rattle.em_pcap.specs.Reading.{reading_of}
 use Rattle.em_frames.specs.declared.arrivals.Arrivals.{Arrivals}
 use Rattle.em_frames.specs.Arrivals.{AreArrivals}
 use Rattle.em_frames.specs.Sent.{sent_capture}
-use Rattle.em_looks.specs.Numbers.{count_text, counted_text, number_text}
+use Rattle.em_inspect.specs.Numbers.{count_text, counted_text, number_text}
 use Rattle.em_debugger.specs.declared.debugger.Debugger.{Debugger}
 use Rattle.em_debugger.specs.declared.disk.DiskFault.{DiskFault}
 use Rattle.em_debugger.specs.Disk.{Deed, Read, Refused, Stores, disk_text}

@@ -11,8 +11,8 @@ use Rattle.em_script.specs.declared.fault.BenchFault.TheVariants as fault
 use Rattle.em_tape.specs.Tape.{Tape, event_of}
 use Rattle.em_tape.specs.Moves.{IsCut, Plays}
 use Rattle.em_prompt.specs.BenchLine.{BenchLine, text_of as text_of_line}
-use Rattle.em_explain.specs.Explain.{Explains}
-use Rattle.em_looks.specs.Numbers.{counted_text, short_text}
+use Rattle.em_reasons.specs.Explain.{Explains}
+use Rattle.em_inspect.specs.Numbers.{counted_text, short_text}
 use Rattle.em_warnings.specs.Warnings.{found_text}
 use Rattle.em_debugger.specs.declared.debugger.Debugger.{Debugger}
 use Rattle.em_debugger.specs.declared.performing.Performed.{Performed}

@@ -6,7 +6,7 @@ use Rattle.em_console.specs.Turns.{Leads}
 use Rattle.em_script.specs.declared.outcome.Outcome.{Outcome}
 use Rattle.em_script.specs.declared.outcome.Outcome.TheVariants.{Refused, Bad}
 use Rattle.em_script.specs.declared.fault.BenchFault.{BenchFault}
-use Rattle.em_looks.specs.Numbers.{number_text, count_text}
+use Rattle.em_inspect.specs.Numbers.{number_text, count_text}
 use Rattle.em_debugger.specs.declared.debugger.Debugger.{Debugger}
 use Rattle.em_debugger.specs.declared.performing.Performed.{Performed}
 use Rattle.em_debugger.specs.declared.played.Played.{Played}

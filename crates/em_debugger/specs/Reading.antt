@@ -9,7 +9,7 @@ use Rattle.em_line.specs.ParsedLine.{access_in, command_in, event_in}
 use Rattle.em_line.specs.Parts.{said_in}
 use Rattle.em_line.specs.Said.{plain}
 use Rattle.em_line.specs.declared.line.Line.{Line}
-use Rattle.em_explain.specs.Undone.{is_undone}
+use Rattle.em_reasons.specs.Undone.{is_undone}
 use Rattle.em_tape.specs.Tape.{Tape}
 use Rattle.em_debugger.specs.Place.{text_of}
 

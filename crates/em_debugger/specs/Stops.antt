@@ -4,8 +4,8 @@ use Rattle.em_tape.specs.Tape.{behind, event_of}
 use Rattle.em_watch.specs.Change.{IsNextChange}
 use Rattle.em_watch.specs.declared.change.Change.{Change}
 use Rattle.em_watch.specs.declared.watch.Watch.{Watch}
-use Rattle.em_looks.specs.Numbers.{counted_text, number_text, short_text}
-use Rattle.em_looks.specs.Sights.{watch_text, IsWatch}
+use Rattle.em_inspect.specs.Numbers.{counted_text, number_text, short_text}
+use Rattle.em_inspect.specs.Sights.{watch_text, IsWatch}
 use Rattle.em_prompt.specs.Until as until
 use Rattle.em_prompt.specs.Until.{Until}
 use Rattle.em_warnings.specs.Warnings.{found_count}

@@ -2,7 +2,7 @@
 use Rattle.std.specs.Prelude.{ℕ, ◌+◌, ◌-◌, ◌==◌, nat_lt, Bool, if◌then◌else◌, Option, Some, None, is_some}
 use Rattle.std.specs.Prelude.{List, [], ◌∷◌, ◌++◌, codes, filter, find, length}
 use Rattle.std.specs.List.{flat_map, range_with_len}
-use Rattle.em_looks.specs.Numbers.{count_text, number_text}
+use Rattle.em_inspect.specs.Numbers.{count_text, number_text}
 use Rattle.em_named.specs.Numbers.{end_of}
 use Rattle.em_prompt.specs.Near.{begins, is_near}
 use Rattle.em_warnings.specs.Said.{all_rules, rule_called, rule_name, said, said_by}

@@ -8,8 +8,8 @@ use Rattle.em_watch.specs.declared.watch.Watch.{Watch}
 use Rattle.em_prompt.specs.Watch.{Watch as TypedWatch}
 use Rattle.em_prompt.specs.declared.typed.Which.{Which}
 use Rattle.em_prompt.specs.declared.typed.Which.TheVariants.{Newest, Again, All}
-use Rattle.em_looks.specs.Numbers.{number_text, short_text}
-use Rattle.em_looks.specs.Sights.{watch_text, difference_text, IsWatch}
+use Rattle.em_inspect.specs.Numbers.{number_text, short_text}
+use Rattle.em_inspect.specs.Sights.{watch_text, difference_text, IsWatch}
 use Rattle.em_trail.specs.declared.note.Note.{Note}
 use Rattle.em_noted.specs.Note.{note_text}
 use Rattle.em_debugger.specs.declared.debugger.Debugger.{Debugger}

@@ -1,11 +1,11 @@
 -- Why an event did nothing, or why things are as they are, and which events set what decided that.
 use Rattle.std.specs.Prelude.{◌≡◌, ℕ, zero, suc, nat_lt, Bool, true, false, if◌then◌else◌, List, [], ◌∷◌, ◌++◌, codes}
 use Rattle.std.specs.Prelude.{Option, Some, None}
-use Rattle.em_explain.specs.Explain.{Explains}
-use Rattle.em_explain.specs.Looked.{LookedAt}
-use Rattle.em_explain.specs.LookText.{look_text}
-use Rattle.em_explain.specs.Watched.{IsWatchOf}
-use Rattle.em_looks.specs.Numbers.{number_text}
+use Rattle.em_reasons.specs.Explain.{Explains}
+use Rattle.em_reasons.specs.Looked.{LookedAt}
+use Rattle.em_reasons.specs.LookText.{look_text}
+use Rattle.em_reasons.specs.Watched.{IsWatchOf}
+use Rattle.em_inspect.specs.Numbers.{number_text}
 use Rattle.em_reasons.specs.declared.look.Look.{Look}
 use Rattle.em_script.specs.Outcome.{event_came}
 use Rattle.em_script.specs.declared.outcome.Outcome.{Outcome}

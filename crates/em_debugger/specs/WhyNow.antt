@@ -1,12 +1,12 @@
 -- Why a step would do nothing, and why the interrupt line is as it is: as things are at the place.
 use Rattle.std.specs.Prelude.{◌≡◌, ℕ, ◌==◌, bit_and, if◌then◌else◌, List, [], ◌∷◌, ◌++◌, codes, Option, Some, None}
 use Rattle.std.specs.Prelude.{Result, Ok, Err}
-use Rattle.em_explain.specs.Explain.{why_text}
-use Rattle.em_explain.specs.LookText.{value_seen}
-use Rattle.em_explain.specs.Undone.{undone_by}
-use Rattle.em_explain.specs.Why.{IsWhyOf, why_looks}
-use Rattle.em_explain.specs.declared.why.Why.{Why}
-use Rattle.em_explain.specs.declared.why.Why.TheVariants.{Refused}
+use Rattle.em_reasons.specs.Explain.{why_text}
+use Rattle.em_reasons.specs.LookText.{value_seen}
+use Rattle.em_reasons.specs.Undone.{undone_by}
+use Rattle.em_reasons.specs.Why.{IsWhyOf, why_looks}
+use Rattle.em_reasons.specs.declared.why.Why.{Why}
+use Rattle.em_reasons.specs.declared.why.Why.TheVariants.{Refused}
 use Rattle.em_prompt.specs.declared.typed.Side.{Side}
 use Rattle.em_prompt.specs.declared.typed.Side.TheVariants.{Receive, Transmit}
 use Rattle.em_reasons.specs.declared.look.Look.{Look}

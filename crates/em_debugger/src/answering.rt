@@ -15,8 +15,8 @@ use crate::debugger::Debugger;
 use crate::disk::Disk;
 use crate::nowhere::tell_nowhere;
 use em_console::Flow;
+use em_inspect::{show_memory, show_register, show_ring, show_sent, show_waiting};
 use em_line::parts_of;
-use em_looks::{show_memory, show_register, show_ring, show_sent, show_waiting};
 use em_names::nearest_in;
 use em_prompt::{
     BenchLine, Fault, Shown, Typed, Wrong, prompted, write_help, write_whole_help, write_wrong,

@@ -8,7 +8,7 @@ ghost use Rattle.em_debugger.specs.Bookmarks.{GoesToMark, MarksPlace, Names, eve
 ghost use Rattle.em_debugger.specs.Bookmarks.{marks_text, no_mark_text, place_of};
 
 use crate::debugger::Debugger;
-use em_looks::write_number;
+use em_inspect::write_number;
 use em_text::{WriteFailed, write_pieces, write_whole};
 use std::alloc::{AllocError, Global};
 use std::io::Write;

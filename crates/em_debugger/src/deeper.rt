@@ -10,8 +10,8 @@ ghost use Rattle.em_debugger.specs.Deeper.{IsAgain, IsAgainTo, IsSeen, IsTooLong
 ghost use Rattle.em_debugger.specs.Deeper.{deepest, did_again, line_again, too_long_text};
 
 use crate::place::{holds, text_of};
+use em_inspect::write_number;
 use em_journal::Settings;
-use em_looks::write_number;
 use em_named::Did;
 use em_tape::Tape;
 use em_text::WriteFailed;

@@ -9,7 +9,7 @@ ghost use Rattle.em_debugger.specs.Who.{event_text};
 use crate::debugger::Debugger;
 use crate::deeper::{Unseen, deeper, write_too_long};
 use crate::who::write_event;
-use em_looks::{write_effect, write_number};
+use em_inspect::{write_effect, write_number};
 use em_tape::Tape;
 use em_text::{WriteFailed, write_whole};
 use std::io::Write;

@@ -11,7 +11,7 @@ use crate::history::{mark, write_start};
 use crate::listing::write_number_column;
 use crate::marks::{shown_of, write_source};
 use crate::place::line_here;
-use em_looks::{write_counted, write_number, write_short};
+use em_inspect::{write_counted, write_number, write_short};
 use em_prompt::Lines;
 use em_text::{WriteFailed, write_whole};
 use std::io::Write;

@@ -15,7 +15,7 @@ use crate::debugger::Debugger;
 use crate::marks::{shown_of, write_source};
 use crate::place::line_here;
 use crate::who::write_access;
-use em_looks::{write_number, write_short};
+use em_inspect::{write_number, write_short};
 use em_named::Did;
 use em_noted::write_note;
 use em_tape::Tape;

@@ -10,7 +10,7 @@ ghost use Rattle.em_debugger.specs.Listing.{numbered_text, numbers_text, sourced
 use crate::debugger::Debugger;
 use crate::marks::{shown_of, write_source};
 use crate::performing::{Performed, write_fault};
-use em_looks::write_short;
+use em_inspect::write_short;
 use em_text::{WriteFailed, next_line, write_pieces, write_whole};
 use itoa::Buffer;
 use std::io::Write;

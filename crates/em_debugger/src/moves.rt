@@ -17,7 +17,7 @@ use crate::marks::write_line_number;
 use crate::place::line_here;
 use crate::told::Told;
 use crate::who::write_what;
-use em_looks::write_number;
+use em_inspect::write_number;
 use em_tape::Tape;
 use em_text::{WriteFailed, write_whole};
 use em_trail::Note;

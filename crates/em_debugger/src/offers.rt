@@ -12,7 +12,7 @@ use crate::debugger::Debugger;
 use crate::disk::{Disk, DiskFault};
 use crate::files::{write_disk_fault, write_file};
 use em_frames::{Arrivals, arrivals_of, write_sent};
-use em_looks::{write_count, write_counted, write_number};
+use em_inspect::{write_count, write_counted, write_number};
 use em_pcap::CaptureError;
 use em_text::{WriteFailed, is_name, write_pieces, write_whole};
 use std::alloc::Global;

@@ -11,7 +11,7 @@ ghost use Rattle.em_debugger.specs.Played.{CountsUp, PlaysAll};
 use crate::debugger::Debugger;
 use crate::performing::{Performed, write_fault};
 use crate::place::behind_here;
-use em_looks::{write_count, write_number};
+use em_inspect::{write_count, write_number};
 use em_script::{BenchFault, Outcome};
 use em_text::{WriteFailed, write_whole};
 use std::io::Write;

@@ -9,8 +9,8 @@ ghost use Rattle.em_line.specs.ParsedLine.{command_in};
 ghost use Rattle.em_debugger.specs.Reading.{access_said, command_said, event_read, event_said, event_where, undone_event};
 
 use crate::place::text_of;
-use em_explain::is_undone;
 use em_line::{Command, Line, accessed, command_of};
+use em_reasons::is_undone;
 use em_step::{Answer, Event, Refusal};
 use em_tape::Tape;
 use std::alloc::{AllocError, Global};

@@ -13,7 +13,7 @@ use crate::lost::loses;
 use crate::marks::{shown_of, write_line_number};
 use crate::performing::{Performed, write_fault};
 use crate::place::line_here;
-use em_looks::{watch_of, write_counted, write_number, write_short, write_watch};
+use em_inspect::{watch_of, write_counted, write_number, write_short, write_watch};
 use em_prompt::Until;
 use em_script::BenchFault;
 use em_text::{WriteFailed, write_whole};

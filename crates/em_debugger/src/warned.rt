@@ -13,7 +13,7 @@ use crate::debugger::Debugger;
 use crate::marks::write_line_number;
 use crate::place::behind_here;
 use crate::who::write_noted;
-use em_looks::{write_count, write_number};
+use em_inspect::{write_count, write_number};
 use em_prompt::{begins, is_near};
 use em_text::{WriteFailed, write_pieces, write_whole};
 use em_warnings::{ALL_RULES, Rule, Warning, write_said};

@@ -16,7 +16,7 @@ use crate::marks::{shown_of, write_line_number};
 use crate::place::events_of;
 use crate::search::{Found, Sought, search};
 use crate::told::Told;
-use em_looks::{watch_of, write_difference, write_number, write_short, write_watch};
+use em_inspect::{watch_of, write_difference, write_number, write_short, write_watch};
 use em_noted::write_note;
 use em_prompt::Which;
 use em_tape::Tape;

@@ -3,18 +3,17 @@ ghost use Rattle.std.specs.Prelude.{◌≡◌, ◌++◌, ℕ, List, IfOk, OnOk, 
 ghost use Rattle.std.specs.Io.KnownBytes.{Appends};
 ghost use Rattle.em_step.specs.Event.{plain};
 ghost use Rattle.em_text.specs.Writer.{Writes};
-ghost use Rattle.em_explain.specs.Explain.{why_text};
-ghost use Rattle.em_explain.specs.LookText.{value_seen};
-ghost use Rattle.em_explain.specs.Why.{why_looks};
+ghost use Rattle.em_reasons.specs.Explain.{why_text};
+ghost use Rattle.em_reasons.specs.LookText.{value_seen};
+ghost use Rattle.em_reasons.specs.Why.{why_looks};
 ghost use Rattle.em_watch.specs.Watching.{register_sight};
 ghost use Rattle.em_debugger.specs.WhyNow.{TellsTried, TellsWhyInterrupt, TellsWhyStep, WouldCome, line_looks, line_said};
 ghost use Rattle.em_debugger.specs.WhyNow.{line_text, side_name, step_of, step_text, undone_text, would_text};
 
 use crate::debugger::Debugger;
-use em_explain::{Why, why_of};
 use em_journal::Machine;
 use em_prompt::Side;
-use em_reasons::Look;
+use em_reasons::{Look, Why, why_of};
 use em_regs::Reg;
 use em_step::{Answer, Event, Refusal};
 use em_text::{WriteFailed, write_whole};

@@ -9,3 +9,9 @@ pub mod Lines
 pub mod Frame
 pub mod DescriptorText
 pub mod RingText
+pub mod Pieces
+pub mod Numbers
+pub mod Sights
+pub mod Frames
+pub mod Views
+pub mod Effects

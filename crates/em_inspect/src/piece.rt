@@ -76,7 +76,7 @@ fn write_piece<W: Write>(writer: &mut W, piece: Piece<'_>) -> Result<(), WriteFa
 {
     match piece {
         Piece::Text(text) => write_whole(writer, text),
-        Piece::Number(number) => write_number(writer, number),
+        Piece::Number(number) => write_decimal(writer, number),
         Piece::Column(number) => write_column(writer, number),
         Piece::Address(address) => write_address(writer, address),
         Piece::Digits(octets) => write_octets(writer, octets),
@@ -90,7 +90,7 @@ fn write_piece<W: Write>(writer: &mut W, piece: Piece<'_>) -> Result<(), WriteFa
 }
 
 /// Writes a number in decimal digits.
-pub fn write_number<W: Write>(writer: &mut W, number: u64) -> Result<(), WriteFailed>
+pub fn write_decimal<W: Write>(writer: &mut W, number: u64) -> Result<(), WriteFailed>
     ensures writes { Writes (W.contents writer.old) (W.contents writer.new) result (decimal number) }
 {
     let mut digits = Buffer::new();

@@ -5,8 +5,8 @@ ghost use Rattle.em_regs.specs.Table.{reg_of};
 ghost use Rattle.em_output.specs.Output.{reason_text};
 ghost use Rattle.em_noted.specs.Note.{access_text, arrival_text, note_text, register_of};
 
+use em_inspect::{Piece, write_text};
 use em_names::write_register;
-use em_pieces::{Piece, write_text};
 use em_regs::{Profile, Reg};
 use em_step::Reason;
 use em_text::{WriteFailed, write_whole};

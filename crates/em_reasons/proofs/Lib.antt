@@ -9,6 +9,12 @@
 --   1  BitLemmas: bits that a mask leaves; LinkLemmas: LU tells the link; ReadLemmas: a descriptor as it is read; StayLemmas on IdleLemmas (`idle_steps_stay_idle`)
 --   2  LostLemmas on DropLemmas (`dropped_frames_stay_dropped`); RefusedStay on RefusalLemmas
 --      (`refused_events_stay_refused`)
+--
+-- The laws of explanations, by the promises that rest on them. The folders here are the proofs of functions, by the
+-- modules of src of the same names.
+--
+-- WhyLaws (`only_what_did_nothing_is_asked`): an event that did something has no reason
+-- MaskedLaws (`write_masked`): the text of the fields that a mask touches
 pub mod TableLemmas
 pub mod IdleLemmas
 pub mod DropLemmas
@@ -20,3 +26,5 @@ pub mod LinkLemmas
 pub mod ReadLemmas
 pub mod RefusedStay
 pub mod TroubleLemmas
+mod MaskedLaws
+pub mod WhyLaws

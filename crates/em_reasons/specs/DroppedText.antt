@@ -4,7 +4,7 @@ use Rattle.em_reasons.specs.declared.dropped.Dropped.{Dropped}
 use Rattle.em_reasons.specs.declared.dropped.Dropped.TheVariants.{Down, Disabled, Unicast, Multicast, Broadcast, Control}
 use Rattle.em_reasons.specs.declared.dropped.Dropped.TheVariants.{Undersize, Oversize, Overlong, Vlan, Cfi, Pause, Missed}
 use Rattle.em_reasons.specs.Bits.{bit_of, word_of}
-use Rattle.em_pieces.specs.Piece.{mac_text}
+use Rattle.em_inspect.specs.Pieces.{mac_text}
 
 -- no filter has a group's address
 abbrev pub group_text : List ℕ → ℕ → List ℕ

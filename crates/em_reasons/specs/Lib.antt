@@ -12,3 +12,9 @@ pub mod DroppedText
 pub mod RefusedText
 pub mod SameLooks
 pub mod Foretold
+pub mod Explain
+pub mod LookText
+pub mod Looked
+pub mod Undone
+pub mod Watched
+pub mod Why

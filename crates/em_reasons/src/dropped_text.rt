@@ -6,7 +6,7 @@ ghost use Rattle.em_reasons.specs.DroppedText.{most_text, vlan_text};
 
 use crate::Dropped;
 use crate::bits::{bit_of, word_of};
-use em_pieces::{Piece, write_text};
+use em_inspect::{Piece, write_text};
 use em_text::{WriteFailed, write_whole};
 use std::io::Write;
 

@@ -1,5 +1,5 @@
 //! What the definitions of reasons and the adapter's steps say together.
-ghost use Rattle.std.specs.Prelude.{◌≡◌, ◌≤◌, ◌↔◌, ℕ, List, Some, None, Err, length, option_map};
+ghost use Rattle.std.specs.Prelude.{◌≡◌, ◌≤◌, ◌↔◌, ℕ, List, Some, None, Err, false, length, option_map, Option, Result};
 ghost use Rattle.em_step.specs.Arrival.{arrival, keeps_sequence};
 ghost use Rattle.em_step.specs.Event.{Event, receives, transmits};
 ghost use Rattle.em_step.specs.State.{State};
@@ -12,6 +12,9 @@ ghost use Rattle.em_reasons.specs.declared.dropped.Dropped.{Dropped};
 ghost use Rattle.em_reasons.specs.declared.refused.Refused.{Refused};
 ghost use Rattle.em_reasons.specs.declared.rx_idle.RxIdle.{RxIdle};
 ghost use Rattle.em_reasons.specs.declared.tx_idle.TxIdle.{TxIdle};
+ghost use Rattle.em_reasons.specs.declared.why.Why.{Why};
+ghost use Rattle.em_reasons.specs.Undone.{is_undone, undone_of};
+ghost use Rattle.em_reasons.specs.Why.{IsWhyOf};
 ghost use Rattle.em_reasons.specs.Dropped.{IsDropped, reason_of, why};
 ghost use Rattle.em_reasons.specs.Refused as refused;
 ghost use Rattle.em_reasons.specs.Foretold.{FillsBuffer, HasFew, IsLongAlone, foretold, refusal_in, rx_trouble};
@@ -95,4 +98,10 @@ pub fn troubles_are_refused()
         refusal_in (step s receives) ≡ foretold (rx_trouble s) }
     ensures transmits { (s : State) → refused.IsBusy s transmits → IsLongAlone s → HasFew s →
         refusal_in (step s transmits) ≡ foretold (tx_trouble s) }
+{}
+
+/// Of an event that did something there is no reason, whichever event it was: so it need not be known.
+pub fn only_what_did_nothing_is_asked()
+    ensures { (s : State) (event other : Option Event) (came : Option (Result Answer Refusal)) (why : Option Why)
+        → is_undone came ≡ false → IsWhyOf s event (undone_of came) why → IsWhyOf s other (undone_of came) why }
 {}

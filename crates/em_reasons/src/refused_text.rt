@@ -4,7 +4,7 @@ ghost use Rattle.em_reasons.specs.RefusedText.{bounds_text, descriptor_then, lon
 ghost use Rattle.em_reasons.specs.RefusedText.{reason_text, refused_text, rx_buffer_text, tx_buffer_text};
 
 use crate::{Bounds, Refused};
-use em_pieces::{Piece, write_text};
+use em_inspect::{Piece, write_text};
 use em_text::{WriteFailed, write_whole};
 use std::io::Write;
 

@@ -2,7 +2,7 @@
 ghost use Rattle.em_text.specs.Writer.{Writes};
 ghost use Rattle.em_reasons.specs.RingText.{empty_text, past_text};
 
-use em_pieces::{Piece, write_text};
+use em_inspect::{Piece, write_text};
 use em_text::WriteFailed;
 use std::io::Write;
 

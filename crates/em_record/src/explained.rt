@@ -3,9 +3,9 @@
 
 use crate::fault::RecordFault;
 use crate::line::without_memory;
-use em_explain::why_of;
 use em_journal::Machine;
 use em_json::write_string;
+use em_reasons::why_of;
 use em_step::{Answer, Event, Refusal};
 use em_text::write_whole;
 use em_warnings::{Warning, found_of, write_said};

@@ -3,8 +3,8 @@ ghost use Rattle.em_text.specs.Writer.{Writes};
 ghost use Rattle.em_noted.specs.Note.{register_of};
 ghost use Rattle.em_recording.specs.Was.{access_text, arrival_text, kind_text, sent_text, spoken_text, step_text, was_text};
 
+use em_inspect::{Piece, write_text};
 use em_noted::{reason_name, register_of, write_note};
-use em_pieces::{Piece, write_text};
 use em_regs::Reg;
 use em_text::{WriteFailed, write_whole};
 use em_trail::{Kind, Note};

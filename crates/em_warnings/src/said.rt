@@ -5,7 +5,7 @@ ghost use Rattle.em_warnings.specs.Said.{head_text, name_of, rule_name, said, wa
 
 use crate::rule::Rule;
 use crate::warning::Warning;
-use em_pieces::{Piece, write_text};
+use em_inspect::{Piece, write_text};
 use em_text::{WriteFailed, write_whole};
 use std::io::Write;
 

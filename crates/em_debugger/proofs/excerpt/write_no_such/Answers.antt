@@ -1,7 +1,7 @@
 use Rattle.std.proofs.Common.{[], codes, refl}
 use Rattle.std.proofs.lemmas.Result.{MatchResult-from_err}
 use Rattle.em_text.proofs.WritingLemmas.{WroteFront-more, WroteFront-none, WroteFront-part, Writes-more}
-use Rattle.em_looks.specs.Numbers.{counted_text, number_text}
+use Rattle.em_inspect.specs.Numbers.{counted_text, number_text}
 use Rattle.em_debugger.specs.Excerpt.{no_such_text}
 use Rattle.em_debugger.proofs.excerpt.write_no_such.Goals as goal
 

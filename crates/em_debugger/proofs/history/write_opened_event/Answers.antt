@@ -2,7 +2,7 @@ use Rattle.std.proofs.Common.{◌++◌, refl}
 use Rattle.std.proofs.lemmas.Result.{MatchResult-from_err}
 use Rattle.em_text.proofs.WritingLemmas.{WroteFront-more, WroteFront-none, WroteFront-part, Writes-more}
 use Rattle.std.specs.Prelude.{codes}
-use Rattle.em_looks.specs.Numbers.{number_text}
+use Rattle.em_inspect.specs.Numbers.{number_text}
 use Rattle.std.proofs.Common.{[]}
 use Rattle.em_noted.specs.Note.{note_text}
 use Rattle.em_debugger.specs.Who.{access_text}

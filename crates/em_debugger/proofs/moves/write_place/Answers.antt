@@ -3,7 +3,7 @@ use Rattle.std.specs.Prelude.{codes}
 use Rattle.std.proofs.lemmas.Result.{MatchResult-from_err}
 use Rattle.em_text.proofs.WritingLemmas.{WroteFront-more, WroteFront-none, WroteFront-part, Writes-more}
 use Rattle.em_tape.specs.Tape.{event_of}
-use Rattle.em_looks.specs.Numbers.{number_text}
+use Rattle.em_inspect.specs.Numbers.{number_text}
 use Rattle.em_debugger.specs.Place.{line_here}
 use Rattle.em_debugger.specs.Moves.{place_text}
 use Rattle.em_debugger.proofs.moves.write_place.Goals as goal

@@ -2,7 +2,7 @@ use Rattle.std.proofs.Common.{◌++◌, refl}
 use Rattle.std.specs.Prelude.{codes}
 use Rattle.std.proofs.lemmas.Result.{MatchResult-from_err}
 use Rattle.em_text.proofs.WritingLemmas.{WroteFront-more, WroteFront-none, WroteFront-part, Writes-more}
-use Rattle.em_looks.specs.Numbers.{count_text}
+use Rattle.em_inspect.specs.Numbers.{count_text}
 use Rattle.em_debugger.specs.Offers.{cut_text, offered_text, padded_text}
 use Rattle.em_debugger.proofs.offers.write_offered.Goals as goal
 

@@ -2,7 +2,7 @@ use Rattle.std.proofs.Common.{◌++◌, refl}
 use Rattle.std.specs.Prelude.{codes}
 use Rattle.std.proofs.lemmas.Result.{MatchResult-from_err}
 use Rattle.em_text.proofs.WritingLemmas.{WroteFront-more, WroteFront-none, WroteFront-part, Writes-more}
-use Rattle.em_looks.specs.Sights.{watch_text}
+use Rattle.em_inspect.specs.Sights.{watch_text}
 use Rattle.em_debugger.specs.Stops.{unchanged_text}
 use Rattle.em_debugger.proofs.stops.write_unchanged.Goals as goal
 

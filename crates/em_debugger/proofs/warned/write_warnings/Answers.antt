@@ -3,7 +3,7 @@ use Rattle.std.specs.Prelude.{codes}
 use Rattle.std.proofs.lemmas.Result.{MatchResult-from_err}
 use Rattle.em_text.proofs.WritingLemmas.{Writes-more, WritesPart-front}
 use Rattle.std.specs.Prelude.{[]}
-use Rattle.em_looks.specs.Numbers.{count_text, number_text}
+use Rattle.em_inspect.specs.Numbers.{count_text, number_text}
 use Rattle.em_debugger.proofs.warned.write_warnings.Goals as goal
 
 pub returns-in_err-write_number : goal.returns-in_err-write_number

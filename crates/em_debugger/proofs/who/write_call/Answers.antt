@@ -2,7 +2,7 @@ use Rattle.std.proofs.Common.{◌++◌, ◌<◌, refl, rules}
 use Rattle.std.specs.Prelude.{codes}
 use Rattle.std.proofs.lemmas.Result.{MatchResult-from_err}
 use Rattle.em_text.proofs.WritingLemmas.{WroteFront-more, WroteFront-none, WroteFront-part, Writes-more}
-use Rattle.em_looks.specs.Numbers.{short_text}
+use Rattle.em_inspect.specs.Numbers.{short_text}
 use Rattle.em_debugger.proofs.TextLaws.{Writes-below}
 use Rattle.em_debugger.proofs.who.write_call.Goals as goal
 

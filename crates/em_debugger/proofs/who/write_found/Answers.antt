@@ -2,7 +2,7 @@ use Rattle.std.proofs.Common.{◌++◌, refl}
 use Rattle.std.proofs.lemmas.Result.{MatchResult-from_err}
 use Rattle.em_text.proofs.WritingLemmas.{WroteFront-more, WroteFront-none, WroteFront-part, Writes-more}
 use Rattle.std.specs.Prelude.{Some, codes}
-use Rattle.em_looks.specs.Sights.{difference_text}
+use Rattle.em_inspect.specs.Sights.{difference_text}
 use Rattle.em_debugger.specs.Who.{event_text, found_text}
 use Rattle.em_tape.specs.Texts.{texts}
 use Rattle.em_debugger.proofs.who.write_found.Goals as goal

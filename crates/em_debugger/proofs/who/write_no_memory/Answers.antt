@@ -2,8 +2,8 @@ use Rattle.std.proofs.Common.{◌++◌, refl}
 use Rattle.std.specs.Prelude.{codes}
 use Rattle.std.proofs.lemmas.Result.{MatchResult-from_err}
 use Rattle.em_text.proofs.WritingLemmas.{WroteFront-more, WroteFront-none, WroteFront-part, Writes-more}
-use Rattle.em_looks.specs.Numbers.{number_text}
-use Rattle.em_looks.specs.Sights.{watch_text}
+use Rattle.em_inspect.specs.Numbers.{number_text}
+use Rattle.em_inspect.specs.Sights.{watch_text}
 use Rattle.em_debugger.specs.Who.{no_memory_text}
 use Rattle.em_debugger.proofs.who.write_no_memory.Goals as goal
 

@@ -2,7 +2,7 @@ use Rattle.std.proofs.Common.{◌++◌, refl}
 use Rattle.std.specs.Prelude.{codes}
 use Rattle.std.proofs.lemmas.Result.{MatchResult-from_err}
 use Rattle.em_text.proofs.WritingLemmas.{WroteFront-more, WroteFront-none, WroteFront-part, Writes-more}
-use Rattle.em_explain.specs.LookText.{look_text}
+use Rattle.em_reasons.specs.LookText.{look_text}
 use Rattle.em_debugger.specs.Why.{look_line}
 use Rattle.em_debugger.proofs.why.write_look_line.Goals as goal
 

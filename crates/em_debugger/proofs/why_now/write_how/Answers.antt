@@ -1,6 +1,6 @@
 use Rattle.std.proofs.Common.{sym, subst}
 use Rattle.em_text.specs.Writer.{Writes}
-use Rattle.em_explain.specs.declared.why.Why.{Why}
+use Rattle.em_reasons.specs.declared.why.Why.{Why}
 use Rattle.em_debugger.specs.WhyNow.{undone_text}
 use Rattle.em_debugger.proofs.WhyLaws.{idle_text}
 use Rattle.em_debugger.proofs.why_now.write_how.Goals as goal

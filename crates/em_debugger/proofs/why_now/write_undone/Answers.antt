@@ -2,7 +2,7 @@ use Rattle.std.proofs.Common.{◌++◌, refl}
 use Rattle.std.specs.Prelude.{Some, codes}
 use Rattle.std.proofs.lemmas.Result.{MatchResult-from_err}
 use Rattle.em_text.proofs.WritingLemmas.{WroteFront-more, WroteFront-none, WroteFront-part, Writes-more}
-use Rattle.em_explain.specs.Explain.{why_text}
+use Rattle.em_reasons.specs.Explain.{why_text}
 use Rattle.em_debugger.specs.WhyNow.{undone_text, would_text}
 use Rattle.em_debugger.proofs.why_now.write_undone.Goals as goal
 

@@ -1,7 +1,7 @@
 use Rattle.std.proofs.Common.{sym, subst}
 use Rattle.std.specs.Prelude.{Option}
 use Rattle.em_text.specs.Writer.{Writes}
-use Rattle.em_explain.specs.declared.why.Why.{Why}
+use Rattle.em_reasons.specs.declared.why.Why.{Why}
 use Rattle.em_debugger.specs.WhyNow.{would_text}
 use Rattle.em_debugger.proofs.why_now.write_would.Goals as goal
 

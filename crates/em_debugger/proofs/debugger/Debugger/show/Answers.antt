@@ -1,6 +1,6 @@
 use Rattle.std.proofs.Common.{ap}
 use Rattle.em_journal.specs.View.{View}
-use Rattle.em_looks.specs.Views.{ring_text}
+use Rattle.em_inspect.specs.Views.{ring_text}
 use Rattle.em_prompt.specs.declared.typed.Shown.TheVariants.{Ring}
 use Rattle.em_debugger.specs.Answering.{Shows}
 use Rattle.em_debugger.proofs.TextLaws.{OnOk-written}

@@ -1,5 +1,5 @@
-use Rattle.em_explain.specs.Undone.{undone_by}
-use Rattle.em_explain.specs.Why.{IsWhyOf}
+use Rattle.em_reasons.specs.Undone.{undone_by}
+use Rattle.em_reasons.specs.Why.{IsWhyOf}
 use Rattle.std.specs.Prelude.{Some}
 use Rattle.em_debugger.specs.Why.{TellsLooks}
 use Rattle.em_debugger.specs.WhyNow.{TellsTried, step_of, step_text}

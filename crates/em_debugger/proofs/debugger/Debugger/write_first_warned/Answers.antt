@@ -2,7 +2,7 @@ use Rattle.std.proofs.Common.{◌++◌, codes, refl}
 use Rattle.std.proofs.lemmas.Result.{MatchResult-from_err}
 use Rattle.em_text.proofs.WritingLemmas.{Writes-more, WroteFront-more, WroteFront-none, WroteFront-part}
 use Rattle.em_warnings.specs.Said.{rule_name}
-use Rattle.em_looks.specs.Numbers.{count_text}
+use Rattle.em_inspect.specs.Numbers.{count_text}
 use Rattle.em_debugger.specs.Marks.{line_number_text, marks_of}
 use Rattle.em_debugger.specs.Warned.{count_warned, first_text, text_of_rule}
 use Rattle.em_debugger.proofs.debugger.Debugger.write_first_warned.Goals as goal

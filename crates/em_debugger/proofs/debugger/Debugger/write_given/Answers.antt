@@ -1,7 +1,7 @@
 use Rattle.std.proofs.Common.{◌++◌, codes, refl}
 use Rattle.std.proofs.lemmas.Result.{MatchResult-from_err}
 use Rattle.em_text.proofs.WritingLemmas.{WroteFront-more, WroteFront-none, WroteFront-part, Writes-more}
-use Rattle.em_looks.specs.Numbers.{short_text}
+use Rattle.em_inspect.specs.Numbers.{short_text}
 use Rattle.em_debugger.specs.Excerpt.{given_text, wanted_text}
 use Rattle.em_debugger.specs.Expected.{wanted}
 use Rattle.em_debugger.specs.Marks.{marks_of, shown_of, source_at, source_text}

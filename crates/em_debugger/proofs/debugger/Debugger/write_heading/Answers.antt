@@ -2,7 +2,7 @@ use Rattle.std.proofs.Common.{◌++◌, refl}
 use Rattle.std.specs.Prelude.{codes}
 use Rattle.std.proofs.lemmas.Result.{MatchResult-from_err}
 use Rattle.em_text.proofs.WritingLemmas.{WroteFront-more, WroteFront-none, WroteFront-part, Writes-more}
-use Rattle.em_looks.specs.Numbers.{short_text}
+use Rattle.em_inspect.specs.Numbers.{short_text}
 use Rattle.em_debugger.specs.Marks.{line_number_text, marks_of, shown_of}
 use Rattle.em_debugger.specs.Performing.{heading_text}
 use Rattle.em_debugger.proofs.debugger.Debugger.write_heading.Goals as goal

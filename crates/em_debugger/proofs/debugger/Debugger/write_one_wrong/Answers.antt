@@ -2,7 +2,7 @@ use Rattle.std.proofs.Common.{refl}
 use Rattle.std.specs.Prelude.{codes}
 use Rattle.std.proofs.lemmas.Result.{MatchResult-from_err}
 use Rattle.em_text.proofs.WritingLemmas.{WroteFront-more, WroteFront-none, WroteFront-part, Writes-more}
-use Rattle.em_looks.specs.Numbers.{number_text}
+use Rattle.em_inspect.specs.Numbers.{number_text}
 use Rattle.em_debugger.specs.Debugger.{told}
 use Rattle.em_debugger.specs.Played.{one_wrong_text, wrong_text}
 use Rattle.em_debugger.proofs.debugger.Debugger.write_one_wrong.Goals as goal

@@ -1,6 +1,6 @@
 use Rattle.std.proofs.Common.{refl}
 use Rattle.em_text.proofs.WritingLemmas.{Writes-more}
-use Rattle.em_looks.specs.Numbers.{short_text}
+use Rattle.em_inspect.specs.Numbers.{short_text}
 use Rattle.em_debugger.specs.Marks.{marks_of, shown_of, source_at, source_text}
 use Rattle.em_debugger.proofs.debugger.Debugger.write_sourced.Goals as goal
 

@@ -1,5 +1,0 @@
-use Rattle.em_explain.proofs.WhyLaws.{no_event_asked}
-use Rattle.em_explain.proofs.laws.only_what_did_nothing_is_asked.Goals as goal
-
-pub returns : goal.returns
-returns c = no_event_asked
